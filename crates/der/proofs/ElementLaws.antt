@@ -1,0 +1,156 @@
+-- Laws of a run of elements: what stands at the loop's place, and that a fault lies inside the bytes that were checked.
+use Prim.Native.Nat.{ℕ, zero, suc, _+_, _-_, _<_, _≤_}
+use mathlib.Core.Path.{_≡_, refl, sym, _∙_, ap, subst}
+use mathlib.Core.List.{List, [], _∷_}
+use mathlib.Core.Bool.{Bool, true, false, not, _&&_}
+use native.Mathlib.Nat.{lt-irrefl, add-zero, add-assoc, add-sub-cancel-left}
+use native.Mathlib.Numerals.{sub-one}
+use native.Mathlib.Omega.{arith}
+use borrow.Author.Tests.{eqb-false, not-true}
+use lib.ListN.{length, take, drop, length-drop, length-take, drop-of-length-le}
+use lib.Seq.{drop-drop, take-all}
+use lib.Dec.{eqb, lit≤, T}
+use Rattle.der.specs.declared.head.Head.{Head}
+use Rattle.der.specs.declared.head.Head.the-variants.{Bad, Whole}
+use Rattle.der.specs.declared.element.Element.{Element}
+use Rattle.der.specs.declared.element.Element.the-variants.{Primitive, Constructed, Faulty}
+use Rattle.der.specs.declared.element.Check.{Check}
+use Rattle.der.specs.declared.element.Check.the-variants.{Sound, Fault}
+use Rattle.der.specs.Head.{headOf}
+use Rattle.der.specs.Content.{contentOk}
+use Rattle.der.specs.Element.{constructed, formOk, judge, elementOf, sizeOf, andThen, withContent, run, contentAt, checkAt}
+use Rattle.der.proofs.HeadLaws.{HeadIn, head-in, cond-case, cond-both}
+
+-- an element takes at least two bytes and ends inside; a constructed one has a level left
+unfoldable pub ElementIn : ℕ → ℕ → Element → Type 0
+ElementIn d n (Primitive size) = (2 ≤ size) × (size ≤ n)
+ElementIn d n (Constructed start len) = (2 ≤ start) × (start + len ≤ n) × (0 < d)
+ElementIn d n (Faulty rule) = Unit {0}
+
+deep : (b : Bool) (d : ℕ) → (b && not (eqb d 0)) ≡ true → 0 < d
+deep true d e = omega (arith, eqb-false d 0 (not-true (eqb d 0) e))
+deep false d e = absurd (subst T (sym e) tt)
+
+judge-in : (d : ℕ) (s : List ℕ) (h : Head) → HeadIn (length s) h → ElementIn d (length s) (judge d s h)
+unfolding judge HeadIn ElementIn
+judge-in d s (Bad rule) w = tt
+judge-in d s (Whole tag start len) w =
+    let P : Element → Type 0 = ElementIn d (length s) in
+    cond-both P (formOk tag && not (eqb d 0))
+    (λ e. cond-case P (constructed tag) {x = Constructed start len} (w .0, w .2, deep (formOk tag) d e)
+    (cond-case P (contentOk tag (take len (drop start s))) {x = Primitive (start + len)} {y = Faulty 4} (omega arith, w .2) tt)) (λ e. tt)
+
+pub element-in : (d : ℕ) (s : List ℕ) → ElementIn d (length s) (elementOf d s)
+unfolding elementOf
+element-in d s = judge-in d s (headOf s) (head-in s)
+
+-- what `&s[i..]` is
+pub tail-is : (s : List ℕ) (i : ℕ) → take (length s - i) (drop i s) ≡ drop i s
+tail-is s i = take-all (length s - i) (drop i s) (omega (arith, length-drop i s))
+
+-- ---- the walk over a run of elements
+skip : (inner : ℕ → List ℕ → Check) (d k b : ℕ) (s : List ℕ) → run inner d k b s ≡ run inner d 0 (b + k) (drop k s)
+unfolding run
+skip inner d zero b s = rw add-zero
+skip inner d (suc k) b [] = refl
+skip inner d (suc k) b (x ∷ s) = skip inner d k (b + 1) s ∙ ap (λ (j : ℕ). run inner d 0 j (drop k s)) (omega arith)
+
+after : (inner : ℕ → List ℕ → Check) (d k b x : ℕ) (s : List ℕ) → 0 < k → run inner d (k - 1) (b + 1) s ≡ run inner d 0 (b + k) (drop k (x ∷ s))
+after inner d zero b x s h = absurd (lt-irrefl 0 h)
+after inner d (suc k) b x s h =
+    ap (λ (j : ℕ). run inner d j (b + 1) s) (sub-one (suc k)) ∙ skip inner d k (b + 1) s ∙ ap (λ (j : ℕ). run inner d 0 j (drop k s)) (omega arith)
+
+-- a run that is not empty: its first element, then the run behind it
+first : (d b : ℕ) (s : List ℕ) → 0 < length s → 0 < sizeOf (elementOf d s) → checkAt d b s ≡ andThen (withContent (contentAt d) b s (elementOf d s)) (checkAt d (b + sizeOf (elementOf d s)) (drop (sizeOf (elementOf d s)) s))
+unfolding checkAt run
+first d b [] h k = absurd (lt-irrefl 0 h)
+first d b (x ∷ s) h k = ap (andThen (withContent (contentAt d) b (x ∷ s) (elementOf d (x ∷ s)))) (after (contentAt d) d (sizeOf (elementOf d (x ∷ s))) b x s k)
+
+first-is : (d b : ℕ) (s : List ℕ) {o : Element} → elementOf d s ≡ o → 0 < length s → 0 < sizeOf o → checkAt d b s ≡ andThen (withContent (contentAt d) b s o) (checkAt d (b + sizeOf o) (drop (sizeOf o) s))
+first-is d b s e h k = subst (λ (o : Element). 0 < sizeOf o → checkAt d b s ≡ andThen (withContent (contentAt d) b s o) (checkAt d (b + sizeOf o) (drop (sizeOf o) s))) e (first d b s h) k
+
+content-check : (d b : ℕ) (s : List ℕ) → 0 < d → contentAt d b s ≡ checkAt (d - 1) b s
+unfolding contentAt checkAt
+content-check zero b s h = absurd (lt-irrefl 0 h)
+content-check (suc d) b s h = ap (λ (j : ℕ). run (contentAt j) j 0 b s) (sym (sub-one (suc d)))
+
+-- where the loop is at i, with what the element there was found to be
+module _ (d : ℕ) (s : List ℕ) (b i : ℕ) {r : Element} (is : r ≡ elementOf d (drop i s)) (here : i < length s) (so-far : checkAt d b s ≡ checkAt d (b + i) (drop i s)) where
+  left : 0 < length (drop i s)
+  left = rw length-drop (omega arith)
+
+  pub primitive-in : {k : ℕ} → r ≡ Primitive k → (2 ≤ k) × (i + k ≤ length s)
+  unfolding ElementIn
+  primitive-in e = let w = subst (ElementIn d (length (drop i s))) (sym is ∙ e) (element-in d (drop i s)) in omega (arith, length-drop i s)
+
+  pub constructed-in : {start len : ℕ} → r ≡ Constructed start len → (2 ≤ start) × (i + start + len ≤ length s) × (0 < d)
+  unfolding ElementIn
+  constructed-in e = let w = subst (ElementIn d (length (drop i s))) (sym is ∙ e) (element-in d (drop i s)) in omega (arith, length-drop i s)
+
+  pub at-faulty : {rule : ℕ} → r ≡ Faulty rule → checkAt d b s ≡ Fault (b + i) rule
+  at-faulty e = so-far ∙ first-is d (b + i) (drop i s) (sym is ∙ e) left (lit≤ tt)
+
+  pub at-primitive : {k : ℕ} → r ≡ Primitive k → checkAt d b s ≡ checkAt d (b + (i + k)) (drop (i + k) s)
+  at-primitive {k} e =
+      so-far ∙ first-is d (b + i) (drop i s) (sym is ∙ e) left (omega (arith, primitive-in e))
+      ∙ rw (drop-drop k i s, add-assoc b i k)
+
+  pub at-constructed : {start len : ℕ} → r ≡ Constructed start len → checkAt d b s ≡ andThen (checkAt (d - 1) (b + (i + start)) (take len (drop (i + start) s))) (checkAt d (b + (i + start + len)) (drop (i + start + len) s))
+  at-constructed {start} {len} e =
+      so-far ∙ first-is d (b + i) (drop i s) (sym is ∙ e) left (omega (arith, constructed-in e))
+      ∙ rw (content-check d (b + i + start) (take len (drop start (drop i s))) (constructed-in e .2), drop-drop start i s, drop-drop (start + len) i s) (simp add-assoc)
+
+  -- with what the call on its content, `&s[a..e]`, answered
+  module _ {start len : ℕ} (e : r ≡ Constructed start len) {inner : Check} (calls : inner ≡ checkAt (d - 1) (b + (i + start)) (take (i + start + len - (i + start)) (drop (i + start) s))) where
+    called : checkAt d b s ≡ andThen inner (checkAt d (b + (i + start + len)) (drop (i + start + len) s))
+    called = at-constructed e ∙ sym (ap (λ (v : Check). andThen v (checkAt d (b + (i + start + len)) (drop (i + start + len) s))) (simp add-sub-cancel-left at calls))
+
+    pub at-sound : inner ≡ Sound → checkAt d b s ≡ checkAt d (b + (i + start + len)) (drop (i + start + len) s)
+    at-sound f = called ∙ ap (λ (v : Check). andThen v (checkAt d (b + (i + start + len)) (drop (i + start + len) s))) f
+
+    pub at-fault : {at rule : ℕ} → inner ≡ Fault at rule → inner ≡ checkAt d b s
+    at-fault f = f ∙ sym (called ∙ ap (λ (v : Check). andThen v (checkAt d (b + (i + start + len)) (drop (i + start + len) s))) f)
+
+pub check-end : (d b : ℕ) (s : List ℕ) (i : ℕ) → length s ≤ i → checkAt d b s ≡ checkAt d (b + i) (drop i s) → Sound ≡ checkAt d b s
+unfolding checkAt run
+check-end d b s i h e = sym (e ∙ rw (drop-of-length-le s h))
+
+-- ---- a fault lies inside the bytes that were checked
+unfoldable pub FaultIn : ℕ → ℕ → Check → Type 0
+FaultIn b n Sound = Unit {0}
+FaultIn b n (Fault at rule) = (b ≤ at) × (at < b + n)
+
+wider : (b n b′ n′ : ℕ) (v : Check) → FaultIn b′ n′ v → b ≤ b′ → b′ + n′ ≤ b + n → FaultIn b n v
+unfolding FaultIn
+wider b n b′ n′ Sound w h k = tt
+wider b n b′ n′ (Fault at rule) w h k = omega arith
+
+both-in : (b n : ℕ) (v next : Check) → FaultIn b n v → FaultIn b n next → FaultIn b n (andThen v next)
+both-in b n Sound next w u = u
+both-in b n (Fault at rule) next w u = w
+
+with-content-in : (inner : ℕ → List ℕ → Check) → ((b : ℕ) (s : List ℕ) → FaultIn b (length s) (inner b s)) → (d b : ℕ) (s : List ℕ) (o : Element) → 0 < length s → ElementIn d (length s) o → FaultIn b (length s) (withContent inner b s o)
+unfolding FaultIn ElementIn
+with-content-in inner ih d b s (Primitive size) h w = tt
+with-content-in inner ih d b s (Faulty rule) h w = omega arith
+with-content-in inner ih d b s (Constructed start len) h w =
+    wider b (length s) (b + start) (length (take len (drop start s))) (inner (b + start) (take len (drop start s))) (ih (b + start) (take len (drop start s))) (omega arith)
+    (omega (arith, length-take len (drop start s), length-drop start s))
+
+run-in : (inner : ℕ → List ℕ → Check) → ((b : ℕ) (s : List ℕ) → FaultIn b (length s) (inner b s)) → (d k b : ℕ) (s : List ℕ) → FaultIn b (length s) (run inner d k b s)
+unfolding run FaultIn
+run-in inner ih d k b [] = tt
+run-in inner ih d (suc k) b (x ∷ s) = wider b (length (x ∷ s)) (b + 1) (length s) (run inner d k (b + 1) s) (run-in inner ih d k (b + 1) s) (omega arith) (omega arith)
+run-in inner ih d zero b (x ∷ s) =
+    both-in b (length (x ∷ s)) (withContent inner b (x ∷ s) (elementOf d (x ∷ s))) (run inner d (sizeOf (elementOf d (x ∷ s)) - 1) (b + 1) s)
+    (with-content-in inner ih d b (x ∷ s) (elementOf d (x ∷ s)) (omega arith) (element-in d (x ∷ s)))
+    (wider b (length (x ∷ s)) (b + 1) (length s) (run inner d (sizeOf (elementOf d (x ∷ s)) - 1) (b + 1) s) (run-in inner ih d (sizeOf (elementOf d (x ∷ s)) - 1) (b + 1) s) (omega arith) (omega arith))
+
+content-in : (d b : ℕ) (s : List ℕ) → FaultIn b (length s) (contentAt d b s)
+unfolding contentAt FaultIn
+content-in zero b s = tt
+content-in (suc d) b s = run-in (contentAt d) (content-in d) d 0 b s
+
+pub fault-in : (d b : ℕ) (s : List ℕ) {at rule : ℕ} → checkAt d b s ≡ Fault at rule → (b ≤ at) × (at < b + length s)
+unfolding checkAt FaultIn
+fault-in d b s e = subst (FaultIn b (length s)) e (run-in (contentAt d) (content-in d) d 0 b s)

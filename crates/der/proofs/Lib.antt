@@ -1,0 +1,5 @@
+pub mod Auto
+pub mod HeadLaws
+pub mod ContentLaws
+pub mod ElementLaws
+pub mod OneForm

@@ -1,0 +1,19 @@
+use Rattle.der.proofs.Auto.{tests}
+use Rattle.der.specs.Head.{lengthOf}
+use Rattle.der.proofs.head.read_length.Statement.{statement}
+use Rattle.der.proofs.head.read_length.Tie as tie
+
+pub read-length-spec : {M : Type 1} → statement M
+unfolding lengthOf
+read-length-spec = tie.close (tie.spec
+    (λ c. search tests)
+    (λ c. search tests)
+    (λ c. search tests)
+    (λ c κs. search tests)
+    (λ c κs. search tests)
+    (λ c. search (tests, c .fit .ensures, c .before .wide .ensures .0))
+    (λ c κs. search tests)
+    (λ c. search tests)
+    (λ c κs. search tests)
+    (λ c. search tests)
+    (λ c. search tests))

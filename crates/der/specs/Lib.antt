@@ -1,0 +1,4 @@
+pub mod Head
+pub mod Content
+pub mod Element
+pub mod Dozen

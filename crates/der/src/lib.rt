@@ -1,0 +1,4 @@
+// DER elements as X.690 has them and document 01 narrows them: one byte of tag, three forms of length, at most sixteen deep.
+mod content;
+pub mod element;
+pub mod head;
