@@ -8,7 +8,7 @@ use native.Mathlib.Omega.{arith}
 use borrow.Author.Tests.{ltb-true, ltb-false, leb-true, eqb-true, eqb-false, lt-ltb, le-ltb, le-leb, ne-eqb}
 use lib.ListN.{length, getD, take, drop, length-drop, take-append-drop}
 use lib.Seq.{take-suc, length-take-le}
-use lib.Dec.{ltb, leb, eqb, lit<, T}
+use lib.Dec.{ltb, leb, eqb, lit<}
 use Rattle.der.specs.declared.head.Head.{Head}
 use Rattle.der.specs.declared.head.Head.the-variants.{Bad, Whole}
 use Rattle.der.specs.declared.element.Element.{Element}
@@ -16,6 +16,7 @@ use Rattle.der.specs.declared.element.Element.the-variants.{Primitive, C
 use Rattle.der.specs.Head.{byte, tagOk, inside, oneByte, twoBytes, lengthOf, headOf, headBytes}
 use Rattle.der.specs.Content.{contentOk}
 use Rattle.der.specs.Element.{constructed, formOk, judge, elementOf}
+use Rattle.der.proofs.Auto.{or-left, or-right}
 use Rattle.der.proofs.HeadLaws.{cond-case, cond-both}
 
 -- each is a byte
@@ -48,15 +49,6 @@ inside-written s tag start len e ok h = cond-both (Written s) (leb (start + len)
 short-written : (s : List ℕ) → 2 ≤ length s → byte s 1 < 128 → take 2 s ≡ headBytes (byte s 0) (byte s 1)
 unfolding headBytes
 short-written s h k = front2 s h ∙ sym (simp (lt-ltb (byte s 1) 128 k))
-
--- one of two tests that are both false
-or-left : (a b : Bool) → (a || b) ≡ false → a ≡ false
-or-left true b e = e
-or-left false b e = refl
-
-or-right : (a b : Bool) → (a || b) ≡ false → b ≡ false
-or-right true b e = absurd (subst T e tt)
-or-right false b e = e
 
 one-written : (s : List ℕ) → Bytes s → 3 ≤ length s → 128 ≤ byte s 2 → byte s 1 ≡ 129 → take 3 s ≡ headBytes (byte s 0) (byte s 2)
 unfolding headBytes

@@ -1,0 +1,4 @@
+pub mod Cursor
+pub mod Parts
+pub mod Header
+pub mod Entries
