@@ -25,9 +25,9 @@ head-at-in m c {r} {tag} {start} {len} e k =
     cond-both (λ (h : Head). h ≡ Whole tag start len → (2 ≤ start) × (c .at + start + len ≤ c .end) × (c .end ≤ length m))
     (leb (c .at) (c .end) && leb (c .end) (length m))
     (λ t q.
-      let low = leb-true (c .at) (c .end) (and-left _ (leb (c .end) (length m)) t) in
-      let s = span-in m (c .at) (c .end) low refl q in
-      (s .0, s .1, leb-true (c .end) (length m) (and-right (leb (c .at) (c .end)) _ t)))
+    let low = leb-true (c .at) (c .end) (and-left _ (leb (c .end) (length m)) t) in
+    let s = span-in m (c .at) (c .end) low refl q in
+    (s .0, s .1, leb-true (c .end) (length m) (and-right (leb (c .at) (c .end)) _ t)))
     (λ t q. let z : _≡_ {A = ℕ} 0 1 = cc in absurd (omega arith))
     (sym e ∙ k)
 

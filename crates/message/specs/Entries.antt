@@ -14,7 +14,7 @@ use Rattle.message.specs.Cursor.{tagAt, needOf, anyOf, noneOf, maybeOf, 
 use Rattle.message.specs.Parts.{noSpan, foundSpan, wholeSpan, foundOf, anyField, typedField, statusOf, maybeStatus}
 
 abbrev pub noEntry : Entry
-noEntry = record { number = 0; has_status = false; status = 0; cert_hash = noSpan; hash_alg = noSpan; certificate = noSpan; request = noSpan }
+noEntry = record { number = 0; «has_status» = false; status = 0; «cert_hash» = noSpan; «hash_alg» = noSpan; certificate = noSpan; request = noSpan }
 
 -- A request message: a SEQUENCE that begins with a SEQUENCE that begins with INTEGER certReqId; the rest generic.
 unfoldable pub requestOf : List ℕ → Cursor → Item
@@ -24,7 +24,7 @@ requestOf m c =
     let n : Cursor = smallOf m (enterOf q) in
     record {
       cur = leaveOf s (leaveOf q n);
-      entry = record { number = valueOf m n; has_status = false; status = 0; cert_hash = noSpan; hash_alg = noSpan; certificate = noSpan; request = wholeSpan c s };
+      entry = record { number = valueOf m n; «has_status» = false; status = 0; «cert_hash» = noSpan; «hash_alg» = noSpan; certificate = noSpan; request = wholeSpan c s };
     }
 
 -- CertOrEncCert: [0] one certificate or [1] one element. The span is the plain certificate, or none.
@@ -56,7 +56,7 @@ responseOf m c =
     let k : Cursor = maybeKeyPair m (i .cur) in
     record {
       cur = leaveOf s (doneOf (maybeOf m 0x04 k));
-      entry = record { number = valueOf m n; has_status = i .given; status = i .value; cert_hash = noSpan; hash_alg = noSpan; certificate = foundSpan k; request = noSpan };
+      entry = record { number = valueOf m n; «has_status» = i .given; status = i .value; «cert_hash» = noSpan; «hash_alg» = noSpan; certificate = foundSpan k; request = noSpan };
     }
 
 -- CertStatus: OCTET STRING certHash, INTEGER certReqId, optional status info, optional [0] AlgorithmIdentifier hashAlg
@@ -69,7 +69,7 @@ statusEntry m c =
     let a : Cursor = typedField m 0xA0 (i .cur) in
     record {
       cur = leaveOf s (doneOf a);
-      entry = record { number = valueOf m n; has_status = i .given; status = i .value; cert_hash = foundSpan h; hash_alg = foundSpan a; certificate = noSpan; request = noSpan };
+      entry = record { number = valueOf m n; «has_status» = i .given; status = i .value; «cert_hash» = foundSpan h; «hash_alg» = foundSpan a; certificate = noSpan; request = noSpan };
     }
 
 unfoldable pub entryOf : List ℕ → EntryKind → Cursor → Item
@@ -77,13 +77,17 @@ entryOf m of.Request c = requestOf m c
 entryOf m of.Response c = responseOf m c
 entryOf m of.Status c = statusEntry m c
 
+-- none yet
+abbrev pub noEntries : Cursor → Entries
+noEntries c = record { cur = c; count = 0; last = noEntry }
+
 -- one entry more
 abbrev pub next : List ℕ → EntryKind → Entries → Entries
 next m what e = let i : Item = entryOf m what (e .cur) in record { cur = i .cur; count = e .count + 1; last = i .entry }
 
 -- entries one after another up to the parent's end
 unfoldable pub entriesOf : List ℕ → EntryKind → Cursor → Entries
-entriesOf m what c = repeat (λ (e : Entries). e .cur) (next m what) (leftAt c) (record { cur = c; count = 0; last = noEntry })
+entriesOf m what c = repeat (λ (e : Entries). e .cur) (next m what) (leftAt c) (noEntries c)
 
 -- an entry is looked at only where there is just one
 abbrev pub onlyOf : Entries → Entry

@@ -1,21 +1,22 @@
 -- PKIHeader (document 01, "The parts of a message"; RFC 9810 5.1.1).
 use Prim.Native.Nat.{ℕ}
 use mathlib.Core.List.{List}
-use mathlib.Core.Bool.{Bool, false, cond, _&&_, _||_}
-use lib.Dec.{leb, eqb}
+use mathlib.Core.Bool.{Bool, cond, _||_}
+use lib.Dec.{eqb}
 use Rattle.message.specs.declared.Header.{Header}
 use Rattle.message.specs.declared.cursor.Cursor.{Cursor}
 use Rattle.message.specs.declared.parts.Each.the-variants.{Text, Info}
-use Rattle.message.specs.declared.header.Names.{Names}
-use Rattle.message.specs.declared.header.Options.{Options}
-use Rattle.message.specs.declared.header.Ids.{Ids}
-use Rattle.message.specs.declared.header.HeaderRead.{HeaderRead}
+use Rattle.message.specs.declared.pki_header.Names.{Names}
+use Rattle.message.specs.declared.pki_header.Options.{Options}
+use Rattle.message.specs.declared.pki_header.Ids.{Ids}
+use Rattle.message.specs.declared.pki_header.HeaderRead.{HeaderRead}
 use Rattle.message.specs.Cursor.{tagAt, faultAt, needOf, doneOf, enterOf, leaveOf, valueOf, smallOf}
 use Rattle.message.specs.Parts.{foundSpan, wholeSpan, fieldOf, typedField, sequenceField}
 
 -- A GeneralName is one context element 0 to 8; 0, 3, 4, 5 constructed, the rest primitive.
 unfoldable pub nameTag : ℕ → Bool
-nameTag t = eqb t 0xA0 || (leb 0x81 t && leb t 0x82 || cond (leb 0xA3 t) (leb t 0xA5) (cond (leb 0x86 t) (leb t 0x88) false))
+nameTag t =
+    eqb t 0xA0 || (eqb t 0x81 || (eqb t 0x82 || (eqb t 0xA3 || (eqb t 0xA4 || (eqb t 0xA5 || (eqb t 0x86 || (eqb t 0x87 || eqb t 0x88)))))))
 
 unfoldable pub nameOf : List ℕ → Cursor → Cursor
 nameOf m c = let t : ℕ = tagAt m c in cond (nameTag t) (needOf m t c) (faultAt c)
@@ -35,7 +36,7 @@ optionsOf m c =
     let alg : Cursor = typedField m 0xA1 time in
     let sender : Cursor = fieldOf m 0xA2 0x04 alg in
     let recip : Cursor = fieldOf m 0xA3 0x04 sender in
-    record { cur = recip; message_time = foundSpan time; protection_alg = foundSpan alg; sender_kid = foundSpan sender; recip_kid = foundSpan recip }
+    record { cur = recip; «message_time» = foundSpan time; «protection_alg» = foundSpan alg; «sender_kid» = foundSpan sender; «recip_kid» = foundSpan recip }
 
 -- transactionID [4], senderNonce [5], recipNonce [6] OCTET STRING; freeText [7] PKIFreeText; generalInfo [8] SEQUENCE SIZE (1..MAX)
 -- OF InfoTypeAndValue: all OPTIONAL
@@ -48,11 +49,11 @@ idsOf m c =
     let info : Cursor = sequenceField m 0xA8 Info text in
     record {
       cur = info;
-      transaction_id = foundSpan id;
-      sender_nonce = foundSpan sender;
-      recip_nonce = foundSpan recip;
-      free_text = foundSpan text;
-      general_info = foundSpan info;
+      «transaction_id» = foundSpan id;
+      «sender_nonce» = foundSpan sender;
+      «recip_nonce» = foundSpan recip;
+      «free_text» = foundSpan text;
+      «general_info» = foundSpan info;
     }
 
 abbrev pub joined : Names → Options → Ids → Header
@@ -61,15 +62,15 @@ joined n o i =
       version = n .version;
       sender = n .sender;
       recipient = n .recipient;
-      message_time = o .message_time;
-      protection_alg = o .protection_alg;
-      sender_kid = o .sender_kid;
-      recip_kid = o .recip_kid;
-      transaction_id = i .transaction_id;
-      sender_nonce = i .sender_nonce;
-      recip_nonce = i .recip_nonce;
-      free_text = i .free_text;
-      general_info = i .general_info;
+      «message_time» = o .«message_time»;
+      «protection_alg» = o .«protection_alg»;
+      «sender_kid» = o .«sender_kid»;
+      «recip_kid» = o .«recip_kid»;
+      «transaction_id» = i .«transaction_id»;
+      «sender_nonce» = i .«sender_nonce»;
+      «recip_nonce» = i .«recip_nonce»;
+      «free_text» = i .«free_text»;
+      «general_info» = i .«general_info»;
     }
 
 -- PKIHeader ::= SEQUENCE, all of these in this order and nothing else

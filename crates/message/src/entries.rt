@@ -21,7 +21,8 @@ use crate::parts::status_info;
 use crate::parts::typed_field;
 use crate::parts::whole_span;
 ghost use mathlib.Core.Path.{_≡_};
-ghost use Rattle.message.specs.Entries.{noEntry, requestOf, choiceOf, keyPair, maybeKeyPair, responseOf, statusEntry, entryOf, next, entriesOf, onlyOf};
+ghost use Prim.Native.Nat.{_+_, _^_, _<_};
+ghost use Rattle.message.specs.Entries.{noEntry, noEntries, requestOf, choiceOf, keyPair, maybeKeyPair, responseOf, statusEntry, entryOf, next, entriesOf, onlyOf};
 
 // What a body's entries are.
 pub enum EntryKind {
@@ -111,11 +112,7 @@ fn maybe_key_pair(m: &[u8], c: Cursor) -> Cursor
     ensures { λ r. ⌜ r ≡ maybeKeyPair (now (m .entry)) c ⌝ }
 {
     let t = tag_at(m, c);
-    if t == 0x30 {
-        key_pair(m, c)
-    } else {
-        none(c)
-    }
+    if t == 0x30 { key_pair(m, c) } else { none(c) }
 }
 
 // CertResponse.
@@ -174,21 +171,37 @@ fn entry_of(m: &[u8], c: Cursor, what: EntryKind) -> Item
     }
 }
 
-// Entries one after another up to the parent's end.
-pub(crate) fn entries(m: &[u8], c: Cursor, what: EntryKind) -> Entries
-    ensures { λ r. ⌜ r ≡ entriesOf (now (m .entry)) what c ⌝ }
+fn no_entries(c: Cursor) -> Entries
+    ensures { λ r. ⌜ r ≡ noEntries c ⌝ }
 {
-    let mut e = Entries {
+    Entries {
         cur: c,
         count: 0,
         last: no_entry(),
-    };
+    }
+}
+
+fn next_entry(m: &[u8], e: Entries, what: EntryKind) -> Entries
+    requires { ⌜ e .count + 1 < 2 ^ 64 ⌝ }
+    ensures { λ r. ⌜ r ≡ next (now (m .entry)) what e ⌝ }
+{
+    let i = entry_of(m, e.cur, what);
+    let cur = i.cur;
+    let last = i.entry;
+    Entries {
+        cur,
+        count: e.count + 1,
+        last,
+    }
+}
+
+// Entries one after another up to the parent's end.
+pub(crate) fn read_entries(m: &[u8], c: Cursor, what: EntryKind) -> Entries
+    ensures { λ r. ⌜ r ≡ entriesOf (now (m .entry)) what c ⌝ }
+{
+    let mut e = no_entries(c);
     while more(e.cur) {
-        let i = entry_of(m, e.cur, what);
-        let cur = i.cur;
-        let last = i.entry;
-        let count = e.count + 1;
-        e = Entries { cur, count, last };
+        e = next_entry(m, e, what);
     }
     e
 }

@@ -1,8 +1,21 @@
 // Reads a PKIMessage (RFC 9810) as document 01 takes it, and says where each part stands in the caller's own bytes.
 mod cursor;
 mod entries;
-mod header;
+mod grammar;
 mod parts;
+mod pki_body;
+mod pki_header;
+
+use crate::cursor::part_at;
+use crate::grammar::MessageRead;
+use crate::grammar::read_message;
+use der::element::Check;
+use der::element::check_elements;
+ghost use mathlib.Core.Path.{_≡_};
+ghost use Rattle.message.specs.Read.{badLength, broken, lowest, readingOf, spanBytes, protectedLength};
+
+// The longest message, in bytes.
+pub const MAX_MESSAGE: usize = 16384;
 
 // A byte's place in the message.
 pub struct Offset(pub usize);
@@ -74,4 +87,121 @@ pub struct Fault {
 pub enum Reading {
     Clean(Message),
     Refused(Fault),
+}
+
+fn broken_at(at: usize, rule: u8) -> Reading
+    ensures { λ r. ⌜ r ≡ broken at rule ⌝ }
+{
+    Reading::Refused(Fault {
+        number: 2,
+        at: Offset(at),
+        rule,
+    })
+}
+
+fn lower(at: usize, rule: u8, g: MessageRead) -> Reading
+    ensures { λ r. ⌜ r ≡ lowest (Check.Fault at rule) g ⌝ }
+{
+    let cur = g.cur;
+    if cur.ok {
+        return broken_at(at, rule);
+    }
+    if cur.at < at {
+        return broken_at(cur.at, 5);
+    }
+    broken_at(at, rule)
+}
+
+fn lowest_fault(c: Check, g: MessageRead) -> Reading
+    ensures { λ r. ⌜ r ≡ lowest c g ⌝ }
+{
+    match c {
+        Check::Fault(at, rule) => lower(at, rule, g),
+        Check::Sound => {
+            let cur = g.cur;
+            if cur.ok {
+                let found = g.found;
+                return Reading::Clean(found);
+            }
+            broken_at(cur.at, 5)
+        }
+    }
+}
+
+// Reads a message: every part that was found, or the refusal.
+pub fn read(message: &[u8]) -> Reading
+    ensures { λ r. ⌜ r ≡ readingOf (now (message .entry)) ⌝ }
+{
+    let n = message.len();
+    if n == 0 {
+        return too_short_or_long();
+    }
+    if MAX_MESSAGE < n {
+        return too_short_or_long();
+    }
+    let c = check_elements(message);
+    lowest_fault(c, read_message(message))
+}
+
+fn too_short_or_long() -> Reading
+    ensures { λ r. ⌜ r ≡ badLength ⌝ }
+{
+    Reading::Refused(Fault {
+        number: 1,
+        at: Offset(0),
+        rule: 0,
+    })
+}
+
+// The part of the caller's bytes that a span names; empty for an absent one, and where the message has not so many bytes.
+pub fn part(message: &[u8], span: Span) -> &[u8]
+    ensures { λ r. ⌜ now r ≡ spanBytes (now (message .entry)) span ⌝ }
+{
+    let start = span.start;
+    part_at(message, start.0, span.len)
+}
+
+// The header, the whole element.
+pub fn header_part(message: &[u8], found: Message) -> &[u8]
+    ensures { λ r. ⌜ now r ≡ spanBytes (now (message .entry)) (found .header) ⌝ }
+{
+    part(message, found.header)
+}
+
+// The body, the whole element.
+pub fn body_part(message: &[u8], found: Message) -> &[u8]
+    ensures { λ r. ⌜ now r ≡ spanBytes (now (message .entry)) (found .body) ⌝ }
+{
+    part(message, found.body)
+}
+
+// The protection, the whole element [0].
+pub fn protection_part(message: &[u8], found: Message) -> &[u8]
+    ensures { λ r. ⌜ now r ≡ spanBytes (now (message .entry)) (found .protection) ⌝ }
+{
+    part(message, found.protection)
+}
+
+// The plain certificate of the only response.
+pub fn certificate_part(message: &[u8], found: Message) -> &[u8]
+    ensures { λ r. ⌜ now r ≡ spanBytes (now (message .entry)) (found .contents .entry .certificate) ⌝ }
+{
+    let contents = found.contents;
+    let entry = contents.entry;
+    part(message, entry.certificate)
+}
+
+// How long the content of the protected part is: the DER SEQUENCE of header and body.
+pub fn protected_length(found: Message) -> usize
+    ensures { λ r. ⌜ r ≡ protectedLength found ⌝ }
+{
+    let header = found.header;
+    let body = found.body;
+    if MAX_MESSAGE < header.len {
+        return 0;
+    }
+    if MAX_MESSAGE < body.len {
+        return 0;
+    }
+    header.len + body.len
 }

@@ -57,18 +57,28 @@ fn name_tag(t: u8) -> bool
     if t == 0xA0 {
         return true;
     }
-    if 0x81 <= t {
-        if t <= 0x82 {
-            return true;
-        }
+    if t == 0x81 {
+        return true;
     }
-    if 0xA3 <= t {
-        return t <= 0xA5;
+    if t == 0x82 {
+        return true;
     }
-    if 0x86 <= t {
-        return t <= 0x88;
+    if t == 0xA3 {
+        return true;
     }
-    false
+    if t == 0xA4 {
+        return true;
+    }
+    if t == 0xA5 {
+        return true;
+    }
+    if t == 0x86 {
+        return true;
+    }
+    if t == 0x87 {
+        return true;
+    }
+    t == 0x88
 }
 
 // GeneralName.
@@ -83,7 +93,7 @@ fn name(m: &[u8], c: Cursor) -> Cursor
     }
 }
 
-fn names(m: &[u8], c: Cursor) -> Names
+fn read_names(m: &[u8], c: Cursor) -> Names
     ensures { λ r. ⌜ r ≡ namesOf (now (m .entry)) c ⌝ }
 {
     let v = small(m, c);
@@ -97,7 +107,7 @@ fn names(m: &[u8], c: Cursor) -> Names
     }
 }
 
-fn options(m: &[u8], c: Cursor) -> Options
+fn read_options(m: &[u8], c: Cursor) -> Options
     ensures { λ r. ⌜ r ≡ optionsOf (now (m .entry)) c ⌝ }
 {
     let time = field(m, c, 0xA0, 0x18);
@@ -113,7 +123,7 @@ fn options(m: &[u8], c: Cursor) -> Options
     }
 }
 
-fn ids(m: &[u8], c: Cursor) -> Ids
+fn read_ids(m: &[u8], c: Cursor) -> Ids
     ensures { λ r. ⌜ r ≡ idsOf (now (m .entry)) c ⌝ }
 {
     let id = field(m, c, 0xA4, 0x04);
@@ -131,19 +141,19 @@ fn ids(m: &[u8], c: Cursor) -> Ids
     }
 }
 
-pub(crate) fn header(m: &[u8], c: Cursor) -> HeaderRead
+pub(crate) fn read_header(m: &[u8], c: Cursor) -> HeaderRead
     ensures { λ r. ⌜ r ≡ headerOf (now (m .entry)) c ⌝ }
 {
     let s = need(m, c, 0x30);
-    let n = names(m, enter(s));
-    let o = options(m, n.cur);
-    let i = ids(m, o.cur);
+    let n = read_names(m, enter(s));
+    let o = read_options(m, n.cur);
+    let i = read_ids(m, o.cur);
     let cur = leave(s, done(i.cur));
-    let fields = joined(n, o, i);
+    let fields = join(n, o, i);
     HeaderRead { cur, fields }
 }
 
-fn joined(n: Names, o: Options, i: Ids) -> Header
+fn join(n: Names, o: Options, i: Ids) -> Header
     ensures { λ r. ⌜ r ≡ joined n o i ⌝ }
 {
     let sender = n.sender;

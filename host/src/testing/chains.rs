@@ -1,0 +1,82 @@
+//! Long messages for measuring: certificate chains of real certificates, taken
+//! out of messages that OpenSSL's client and server exchanged.
+
+use super::der::{parse, Node};
+use super::messages::{full_header, key_pair, message, protection, responses, status_info};
+
+const MESSAGES: [&[u8]; 4] = [
+    include_bytes!("../../tests/corpus/sig-extra-rsp1.der"),
+    include_bytes!("../../tests/corpus/sig-extra-req1.der"),
+    include_bytes!("../../tests/corpus/mac-extra-rsp1.der"),
+    include_bytes!("../../tests/corpus/sig-sans-rsp1.der"),
+];
+
+/// The different certificates in these messages.
+pub fn certificates() -> Vec<Node> {
+    let mut found = Vec::new();
+    for bytes in MESSAGES {
+        for element in parse(bytes).unwrap_or_default() {
+            collect(element, &mut found);
+        }
+    }
+    found
+}
+
+fn collect(element: Node, found: &mut Vec<Node>) {
+    if is_certificate(&element) {
+        if !found.contains(&element) {
+            found.push(element);
+        }
+    } else {
+        for child in element.children() {
+            collect(child.clone(), found);
+        }
+    }
+}
+
+/// Contents to be signed, of which there are at least six, an algorithm and a
+/// signature. (A certification request has four.)
+fn is_certificate(element: &Node) -> bool {
+    match element.children() {
+        [contents, algorithm, signature] => {
+            contents.children().len() >= 6 && algorithm.tag == 0x30 && signature.tag == 0x03
+        }
+        _ => false,
+    }
+}
+
+/// As many certificates, over and over, as fit into `size` bytes.
+fn chain(size: usize) -> Vec<Node> {
+    let mut left = size;
+    certificates()
+        .into_iter()
+        .cycle()
+        .map_while(|certificate| {
+            left = left.checked_sub(certificate.encoded_len())?;
+            Some(certificate)
+        })
+        .collect()
+}
+
+/// An ip of at most `size` bytes with every header field, one certificate and
+/// as long a chain in extraCerts as there is room for.
+pub fn chain_message(size: usize) -> Vec<u8> {
+    let mut pair = key_pair(0, false);
+    if let (Some(wrapper), Some(certificate)) = (pair.children_mut(), certificates().pop()) {
+        wrapper[0] = Node::explicit(0, certificate);
+    }
+    let response = Node::sequence(vec![Node::integer(0), status_info(0, false), pair]);
+    let body = Node::explicit(1, responses(false, vec![response]));
+    let build = |chain| {
+        let extra_certs = Node::explicit(1, Node::sequence(chain));
+        message(full_header(), body.clone(), vec![protection(), extra_certs]).encode()
+    };
+    // Without the chain, and with the longest length forms around it.
+    let frame = build(Vec::new()).len() + 6;
+    build(chain(size.saturating_sub(frame)))
+}
+
+/// A run of at most `size` bytes of certificates.
+pub fn chain_run(size: usize) -> Vec<u8> {
+    chain(size).iter().flat_map(Node::encode).collect()
+}
