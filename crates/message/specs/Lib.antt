@@ -1,7 +1,1 @@
-pub mod Cursor
-pub mod Parts
-pub mod Header
-pub mod Entries
-pub mod Body
-pub mod Message
 pub mod Read

@@ -7,13 +7,13 @@ use lib.Dec.{ltb, eqb}
 use Rattle.der.specs.Element.{check}
 use Rattle.der.specs.declared.element.Check.{Check}
 use Rattle.der.specs.declared.element.Check.the-variants.{Sound, Fault}
-use Rattle.message.specs.declared.Span.{Span}
-use Rattle.message.specs.declared.Message.{Message}
+use Rattle.grammar.specs.declared.Span.{Span}
+use Rattle.grammar.specs.declared.Message.{Message}
 use Rattle.message.specs.declared.Reading.{Reading}
 use Rattle.message.specs.declared.Reading.the-variants.{Clean, Refused}
-use Rattle.message.specs.declared.grammar.MessageRead.{MessageRead}
-use Rattle.message.specs.Cursor.{partOf}
-use Rattle.message.specs.Message.{messageOf}
+use Rattle.grammar.specs.declared.pki_message.MessageRead.{MessageRead}
+use Rattle.grammar.specs.Cursor.{partOf}
+use Rattle.grammar.specs.Message.{messageOf}
 
 -- messages of 1 to 16,384 bytes
 abbrev pub maxMessage : ℕ

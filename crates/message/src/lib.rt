@@ -1,81 +1,17 @@
-// Reads a PKIMessage (RFC 9810) as document 01 takes it, and says where each part stands in the caller's own bytes.
-mod cursor;
-mod entries;
-mod grammar;
-mod parts;
-mod pki_body;
-mod pki_header;
-
-use crate::cursor::part_at;
-use crate::grammar::MessageRead;
-use crate::grammar::read_message;
+// Reads a message: every part that was found, or the refusal; and hands its parts back as parts of the caller's own bytes.
 use der::element::Check;
 use der::element::check_elements;
+use grammar::Message;
+use grammar::Offset;
+use grammar::Span;
+use grammar::part_at;
+use grammar::pki_message::MessageRead;
+use grammar::pki_message::read_message;
 ghost use mathlib.Core.Path.{_≡_};
 ghost use Rattle.message.specs.Read.{badLength, broken, lowest, readingOf, spanBytes, protectedLength};
 
 // The longest message, in bytes.
 pub const MAX_MESSAGE: usize = 16384;
-
-// A byte's place in the message.
-pub struct Offset(pub usize);
-
-// A part of the message. An absent one starts at 0, where no part but the whole message can start, and has no length.
-pub struct Span {
-    pub start: Offset,
-    pub len: usize,
-}
-
-// PKIHeader. Names, protectionAlg, freeText and generalInfo are whole elements, the other spans contents.
-pub struct Header {
-    // pvno in 32 bits of two's complement
-    pub version: u32,
-    pub sender: Span,
-    pub recipient: Span,
-    pub message_time: Span,
-    pub protection_alg: Span,
-    pub sender_kid: Span,
-    pub recip_kid: Span,
-    pub transaction_id: Span,
-    pub sender_nonce: Span,
-    pub recip_nonce: Span,
-    pub free_text: Span,
-    pub general_info: Span,
-}
-
-// What the only entry of a body says. All of it is zero or absent where there is none or more than one, but for the status of an
-// error message and the request of a p10cr, which have no entries.
-pub struct Entry {
-    // certReqId in 32 bits of two's complement
-    pub number: u32,
-    pub has_status: bool,
-    // status in 32 bits of two's complement
-    pub status: u32,
-    // a content
-    pub cert_hash: Span,
-    // whole elements
-    pub hash_alg: Span,
-    pub certificate: Span,
-    pub request: Span,
-}
-
-// PKIBody: its kind is the number of its tag. `ca_pubs` is a whole element.
-pub struct Body {
-    pub kind: u8,
-    pub entries: usize,
-    pub ca_pubs: Span,
-    pub entry: Entry,
-}
-
-// PKIMessage: four whole elements, and what the first two say.
-pub struct Message {
-    pub header: Span,
-    pub body: Span,
-    pub protection: Span,
-    pub extra_certs: Span,
-    pub fields: Header,
-    pub contents: Body,
-}
 
 // Refusal 1 or 2; of 2 the first fault's offset and the lowest rule broken there (1 to 4 are DER's, 5 the grammar's).
 pub struct Fault {

@@ -73,12 +73,19 @@ pub fn message(random: &mut Random) -> Node {
     message
 }
 
-/// Brings a message near the limit of its size, or over it.
+/// Brings a message near the limit of its size, or a little over it.
 fn enlarge(message: &mut Node, random: &mut Random) {
-    let size = 16_384 + 8 - random.below(24) - message.encoded_len().min(16_000);
+    set_body(message, Node::explicit(5, Node::octets(&[])));
+    // The length forms grow by some bytes themselves.
+    let size = (16_384 - random.below(16)).saturating_sub(message.encoded_len());
     let filler = random.bytes(size);
-    let body = &mut message.children_mut().expect("a message has children")[1];
-    *body = Node::explicit(5, Node::octets(&filler));
+    set_body(message, Node::explicit(5, Node::octets(&filler)));
+}
+
+fn set_body(message: &mut Node, body: Node) {
+    if let Some([_, old, ..]) = message.children_mut().map(Vec::as_mut_slice) {
+        *old = body;
+    }
 }
 
 fn header(random: &mut Random) -> Node {

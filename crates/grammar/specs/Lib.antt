@@ -1,0 +1,6 @@
+pub mod Cursor
+pub mod Parts
+pub mod Header
+pub mod Entries
+pub mod Body
+pub mod Message

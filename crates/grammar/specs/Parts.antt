@@ -1,0 +1,115 @@
+-- Grammar rules that several parts of a message share (document 01, "The parts of a message"; RFC 9810 appendix A).
+-- An optional part is recognised by its tag byte; its inside must then fit.
+use Prim.Native.Nat.{ℕ, _-_, _/_, _%_, _^_}
+use mathlib.Core.List.{List}
+use mathlib.Core.Bool.{Bool, true, false, cond, _||_}
+use lib.ListN.{length}
+use lib.Dec.{ltb, leb, eqb}
+use Rattle.der.specs.Head.{byte}
+use Rattle.grammar.specs.declared.Span.{Span}
+use Rattle.grammar.specs.declared.cursor.Cursor.{Cursor}
+use Rattle.grammar.specs.declared.parts.Each.{Each}
+use Rattle.grammar.specs.declared.parts.Each.the-variants.{Text, Certificate, Info}
+use Rattle.grammar.specs.declared.parts.Status.{Status}
+use Rattle.grammar.specs.Cursor.{tagAt, faultAt, needOf, anyOf, noneOf, restOf, doneOf, enterOf, leaveOf, contentOf, valueOf, smallOf, leftAt, repeat}
+
+-- ## Spans
+
+-- from one offset up to another
+abbrev pub spanFrom : ℕ → ℕ → Span
+spanFrom a b = record { start = record { 0 = a }; len = b - a }
+
+-- an absent part
+abbrev pub noSpan : Span
+noSpan = spanFrom 0 0
+
+-- the content of the element read last
+abbrev pub foundSpan : Cursor → Span
+foundSpan c = spanFrom (c .from) (c .to)
+
+-- the whole element between two cursors
+abbrev pub wholeSpan : Cursor → Cursor → Span
+wholeSpan before after = spanFrom (before .at) (after .at)
+
+-- the whole element between two cursors, if one was read there
+abbrev pub outerSpan : Cursor → Cursor → Span
+outerSpan before after = cond (eqb (after .from) 0) noSpan (wholeSpan before after)
+
+-- back out of an element, with the span of what was found inside
+unfoldable pub foundOf : Cursor → Cursor → Cursor
+foundOf outer inner = cond (inner .ok) (record { at = outer .at; end = outer .end; from = inner .from; to = inner .to; ok = outer .ok }) inner
+
+-- ## SEQUENCE, SEQUENCE OF and explicit tags
+
+-- AlgorithmIdentifier and InfoTypeAndValue: SEQUENCE of an OID and at most one more element
+unfoldable pub typedOf : List ℕ → Cursor → Cursor
+typedOf m c =
+    let s : Cursor = needOf m 0x30 c in
+    let o : Cursor = needOf m 0x06 (enterOf s) in
+    leaveOf s (doneOf (restOf m o))
+
+-- UTF8String; a certificate, which is any SEQUENCE; InfoTypeAndValue
+unfoldable pub oneOf : List ℕ → Each → Cursor → Cursor
+oneOf m Text c = needOf m 0x0C c
+oneOf m Certificate c = needOf m 0x30 c
+oneOf m Info c = typedOf m c
+
+-- one after another up to the parent's end
+unfoldable pub allOf : List ℕ → Each → Cursor → Cursor
+allOf m what c = repeat (λ k. k) (oneOf m what) (leftAt c) c
+
+-- SEQUENCE of one or more
+unfoldable pub sequenceOf : List ℕ → Each → Cursor → Cursor
+sequenceOf m what c =
+    let s : Cursor = needOf m 0x30 c in
+    leaveOf s (allOf m what (oneOf m what (enterOf s)))
+
+-- [n] OPTIONAL around one element with the tag `inner`: the span is what that one holds
+unfoldable pub fieldOf : List ℕ → ℕ → ℕ → Cursor → Cursor
+fieldOf m tag inner c =
+    let o : Cursor = needOf m tag c in
+    cond (eqb (tagAt m c) tag) (foundOf o (doneOf (needOf m inner (enterOf o)))) (noneOf c)
+
+-- [n] AlgorithmIdentifier OPTIONAL: the span is the AlgorithmIdentifier
+unfoldable pub typedField : List ℕ → ℕ → Cursor → Cursor
+typedField m tag c =
+    let o : Cursor = needOf m tag c in
+    cond (eqb (tagAt m c) tag) (leaveOf o (doneOf (typedOf m (enterOf o)))) (noneOf c)
+
+-- [n] OPTIONAL around one element, whatever it is, which is the span
+unfoldable pub anyField : List ℕ → ℕ → Cursor → Cursor
+anyField m tag c =
+    let o : Cursor = needOf m tag c in
+    cond (eqb (tagAt m c) tag) (leaveOf o (doneOf (anyOf m (enterOf o)))) (noneOf c)
+
+-- [n] SEQUENCE of one or more OPTIONAL: the span is the SEQUENCE
+unfoldable pub sequenceField : List ℕ → ℕ → Each → Cursor → Cursor
+sequenceField m tag what c =
+    let o : Cursor = needOf m tag c in
+    cond (eqb (tagAt m c) tag) (leaveOf o (doneOf (sequenceOf m what (enterOf o)))) (noneOf c)
+
+-- ## PKIStatusInfo: SEQUENCE of INTEGER status, optional free text, optional BIT STRING failInfo with no trailing zero bit
+
+-- PKIFreeText OPTIONAL: SEQUENCE of one or more UTF8String
+unfoldable pub maybeText : List ℕ → Cursor → Cursor
+maybeText m c = cond (eqb (tagAt m c) 0x30) (sequenceOf m Text c) (noneOf c)
+
+-- no bit at all, or the last one is set (an unused count above 7 is a fault of the BIT STRING itself, by rule 4)
+unfoldable pub lastBitSet : List ℕ → Bool
+lastBitSet b = leb (length b) 1 || (ltb 7 (byte b 0) || eqb (byte b (length b - 1) / 2 ^ byte b 0 % 2) 1)
+
+-- PKIFailureInfo OPTIONAL
+unfoldable pub failInfoOf : List ℕ → Cursor → Cursor
+failInfoOf m c =
+    let b : Cursor = needOf m 0x03 c in
+    cond (eqb (tagAt m c) 0x03) (cond (lastBitSet (contentOf m b)) b (faultAt c)) (noneOf c)
+
+unfoldable pub statusOf : List ℕ → Cursor → Status
+statusOf m c =
+    let s : Cursor = needOf m 0x30 c in
+    let v : Cursor = smallOf m (enterOf s) in
+    record { cur = leaveOf s (doneOf (failInfoOf m (maybeText m v))); given = true; value = valueOf m v }
+
+-- PKIStatusInfo OPTIONAL
+unfoldable pub maybeStatus : List ℕ → Cursor → Status
+maybeStatus m c = cond (eqb (tagAt m c) 0x30) (statusOf m c) (record { cur = c; given = false; value = 0 })

@@ -1,0 +1,235 @@
+// A cursor over a message, and the verbs that every grammar rule is made of. A fault sticks: each verb hands a faulty cursor on.
+use der::head;
+use der::head::Head;
+use crate::part_at;
+ghost use mathlib.Core.Path.{_≡_};
+ghost use Prim.Native.Nat.{_+_, _-_, _^_, _<_};
+ghost use lib.ListN.{take, drop};
+ghost use Rattle.grammar.specs.Cursor.{headAt, tagAt, faultAt, pastOf, needOf, anyOf, noneOf, maybeOf, restOf, doneOf, enterOf, leaveOf, partOf, contentOf, valueOf, smallOf, moreAt, shiftIn, signed32};
+
+// Where the next element is sought and where its parent ends; what the last one held; and whether all was right so far.
+// A faulty cursor stands at its fault.
+pub struct Cursor {
+    pub at: usize,
+    pub end: usize,
+    pub from: usize,
+    pub to: usize,
+    pub ok: bool,
+}
+
+fn head_at(m: &[u8], c: Cursor) -> Head
+    ensures { λ r. ⌜ r ≡ headAt (now (m .entry)) c ⌝ }
+{
+    let at = c.at;
+    let end = c.end;
+    if at <= end {
+        if end <= m.len() {
+            return head::read(&m[at..end]);
+        }
+    }
+    Head::Bad(2)
+}
+
+// The tag byte of the next element; 0, which is no tag, where nothing is left.
+pub(crate) fn tag_at(m: &[u8], c: Cursor) -> u8
+    ensures { λ r. ⌜ r ≡ tagAt (now (m .entry)) c ⌝ }
+{
+    let at = c.at;
+    let end = c.end;
+    if at < end {
+        if end <= m.len() {
+            return m[at];
+        }
+    }
+    0
+}
+
+// What comes next, or is missing, is at fault.
+pub(crate) fn fault_at(c: Cursor) -> Cursor
+    ensures { λ r. ⌜ r ≡ faultAt c ⌝ }
+{
+    Cursor {
+        at: c.at,
+        end: c.end,
+        from: c.from,
+        to: c.to,
+        ok: false,
+    }
+}
+
+fn past(c: Cursor, start: usize, len: usize) -> Cursor
+    requires { ⌜ c .at + start + len < 2 ^ 64 ⌝ }
+    ensures { λ r. ⌜ r ≡ pastOf c start len ⌝ }
+{
+    let from = c.at + start;
+    let to = from + len;
+    Cursor {
+        at: to,
+        end: c.end,
+        from,
+        to,
+        ok: true,
+    }
+}
+
+// An element with this tag comes next.
+pub(crate) fn need(m: &[u8], c: Cursor, tag: u8) -> Cursor
+    ensures { λ r. ⌜ r ≡ needOf (now (m .entry)) tag c ⌝ }
+{
+    if c.ok {
+        let h = head_at(m, c);
+        match h {
+            Head::Bad(_) => fault_at(c),
+            Head::Whole { tag: t, start, len } => {
+                if t == tag {
+                    past(c, start, len)
+                } else {
+                    fault_at(c)
+                }
+            }
+        }
+    } else {
+        c
+    }
+}
+
+// One element comes next, whatever its tag.
+pub(crate) fn any(m: &[u8], c: Cursor) -> Cursor
+    ensures { λ r. ⌜ r ≡ anyOf (now (m .entry)) c ⌝ }
+{
+    need(m, c, tag_at(m, c))
+}
+
+// Nothing was read here: no span.
+pub(crate) fn none(c: Cursor) -> Cursor
+    ensures { λ r. ⌜ r ≡ noneOf c ⌝ }
+{
+    Cursor {
+        at: c.at,
+        end: c.end,
+        from: 0,
+        to: 0,
+        ok: c.ok,
+    }
+}
+
+// An element with this tag may come next.
+pub(crate) fn maybe(m: &[u8], c: Cursor, tag: u8) -> Cursor
+    ensures { λ r. ⌜ r ≡ maybeOf (now (m .entry)) tag c ⌝ }
+{
+    if tag_at(m, c) == tag {
+        need(m, c, tag)
+    } else {
+        none(c)
+    }
+}
+
+// At most one more element, whatever its tag.
+pub(crate) fn rest(m: &[u8], c: Cursor) -> Cursor
+    ensures { λ r. ⌜ r ≡ restOf (now (m .entry)) c ⌝ }
+{
+    if c.at < c.end { any(m, c) } else { none(c) }
+}
+
+// Nothing more comes.
+pub(crate) fn done(c: Cursor) -> Cursor
+    ensures { λ r. ⌜ r ≡ doneOf c ⌝ }
+{
+    if c.at < c.end { fault_at(c) } else { c }
+}
+
+// Into the element read last.
+pub(crate) fn enter(c: Cursor) -> Cursor
+    ensures { λ r. ⌜ r ≡ enterOf c ⌝ }
+{
+    if c.ok {
+        Cursor {
+            at: c.from,
+            end: c.to,
+            from: 0,
+            to: 0,
+            ok: true,
+        }
+    } else {
+        c
+    }
+}
+
+// Back out of it, with a fault that was met inside.
+pub(crate) fn leave(outer: Cursor, inner: Cursor) -> Cursor
+    ensures { λ r. ⌜ r ≡ leaveOf outer inner ⌝ }
+{
+    if inner.ok { outer } else { inner }
+}
+
+// From one offset up to another.
+pub(crate) fn distance(a: usize, b: usize) -> usize
+    ensures { λ r. ⌜ r ≡ b - a ⌝ }
+{
+    if a <= b { b - a } else { 0 }
+}
+
+// What the element read last holds.
+pub(crate) fn content(m: &[u8], c: Cursor) -> &[u8]
+    ensures { λ r. ⌜ now r ≡ contentOf (now (m .entry)) c ⌝ }
+{
+    part_at(m, c.from, distance(c.from, c.to))
+}
+
+// A number in two's complement, as its low 32 bits.
+fn signed_value(s: &[u8]) -> u32
+    ensures { λ r. ⌜ r ≡ signed32 (now (s .entry)) ⌝ }
+{
+    if s.len() == 0 {
+        return 0;
+    }
+    if 128 <= s[0] {
+        return shift_in(4294967295, s);
+    }
+    shift_in(0, s)
+}
+
+fn shift_in(first: u64, s: &[u8]) -> u32
+    requires { ⌜ first < 2 ^ 32 ⌝ }
+    ensures { λ r. ⌜ r ≡ shiftIn first (now (s .entry)) ⌝ }
+{
+    let mut v = first;
+    let mut i = 0;
+    while i < s.len() {
+        v = (v * 256 + wide(s[i])) % 4294967296;
+        i += 1;
+    }
+    v as u32
+}
+
+fn wide(x: u8) -> u64
+    ensures { λ r. ⌜ (r ≡ x) × (r < 256) ⌝ }
+{
+    x as u64
+}
+
+// The number that the INTEGER read last says.
+pub(crate) fn value(m: &[u8], c: Cursor) -> u32
+    ensures { λ r. ⌜ r ≡ valueOf (now (m .entry)) c ⌝ }
+{
+    signed_value(content(m, c))
+}
+
+// An INTEGER of at most four content bytes.
+pub(crate) fn small(m: &[u8], c: Cursor) -> Cursor
+    ensures { λ r. ⌜ r ≡ smallOf (now (m .entry)) c ⌝ }
+{
+    let n = need(m, c, 0x02);
+    let len = distance(n.from, n.to);
+    if 4 < len {
+        return fault_at(c);
+    }
+    n
+}
+
+// Whether another element is to be read.
+pub(crate) fn more(c: Cursor) -> bool
+    ensures { λ r. ⌜ r ≡ moreAt c ⌝ }
+{
+    if c.ok { c.at < c.end } else { false }
+}

@@ -1,0 +1,59 @@
+// PKIMessage by its grammar alone: heads are followed, and what lies below them is left to the check of the whole.
+use crate::Message;
+use crate::cursor::Cursor;
+use crate::cursor::done;
+use crate::cursor::enter;
+use crate::cursor::leave;
+use crate::cursor::need;
+use crate::parts::Each;
+use crate::parts::field;
+use crate::parts::outer_span;
+use crate::parts::sequence_field;
+use crate::parts::whole_span;
+use crate::pki_body::read_body;
+use crate::pki_header::read_header;
+ghost use mathlib.Core.Path.{_≡_};
+ghost use lib.ListN.{length};
+ghost use Rattle.grammar.specs.Message.{startAt, messageOf};
+
+// What the grammar found, up to its fault if it has one.
+pub struct MessageRead {
+    pub cur: Cursor,
+    pub found: Message,
+}
+
+fn start_at(end: usize) -> Cursor
+    ensures { λ r. ⌜ r ≡ startAt end ⌝ }
+{
+    Cursor {
+        at: 0,
+        end,
+        from: 0,
+        to: 0,
+        ok: true,
+    }
+}
+
+// Reads a message by its grammar.
+pub fn read_message(m: &[u8]) -> MessageRead
+    ensures { λ r. ⌜ r ≡ messageOf (now (m .entry)) ⌝ }
+{
+    let s = need(m, start_at(m.len()), 0x30);
+    let c = enter(s);
+    let h = read_header(m, c);
+    let b = read_body(m, h.cur);
+    let p = field(m, b.cur, 0xA0, 0x03);
+    let x = sequence_field(m, p, 0xA1, Each::Certificate);
+    let cur = done(leave(s, done(x)));
+    let fields = h.fields;
+    let contents = b.contents;
+    let found = Message {
+        header: whole_span(c, h.cur),
+        body: whole_span(h.cur, b.cur),
+        protection: outer_span(b.cur, p),
+        extra_certs: outer_span(p, x),
+        fields,
+        contents,
+    };
+    MessageRead { cur, found }
+}

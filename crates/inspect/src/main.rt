@@ -1,0 +1,56 @@
+// Reads a message from standard input and prints where its parts are, start and length, or by which number it is refused.
+use libc::STDIN_FILENO;
+use libc::STDOUT_FILENO;
+use grammar::Message;
+use grammar::Offset;
+use message::Reading;
+use grammar::Span;
+
+fn put_number(n: usize) {
+    io::write_all(STDOUT_FILENO, b" ");
+    io::print_decimal(STDOUT_FILENO, n as u64);
+}
+
+fn end_line() {
+    io::write_all(STDOUT_FILENO, b"\n");
+}
+
+fn put_span(word: &[u8], span: Span) {
+    io::write_all(STDOUT_FILENO, word);
+    let start = span.start;
+    put_number(start.0);
+    put_number(span.len);
+    end_line();
+}
+
+fn put_message(m: Message) {
+    let contents = m.contents;
+    let kind = contents.kind;
+    let entry = contents.entry;
+    io::write_all(STDOUT_FILENO, b"kind");
+    put_number(kind as usize);
+    end_line();
+    put_span(b"header", m.header);
+    put_span(b"body", m.body);
+    put_span(b"protection", m.protection);
+    if kind == 24 {
+        if contents.entries == 1 {
+            put_span(b"hash", entry.cert_hash);
+        }
+    }
+}
+
+// One byte more than a message may have tells a longer one; nothing after it is waited for.
+fn main() {
+    let mut buffer = [0u8; 16385];
+    let n = io::read_full(STDIN_FILENO, &mut buffer);
+    let reading = message::read(&buffer[..n]);
+    match reading {
+        Reading::Clean(m) => put_message(m),
+        Reading::Refused(fault) => {
+            io::write_all(STDOUT_FILENO, b"refused");
+            put_number(fault.number as usize);
+            end_line();
+        }
+    }
+}
