@@ -1,7 +1,7 @@
 // A cursor over a message, and the verbs that every grammar rule is made of. A fault sticks: each verb hands a faulty cursor on.
+use crate::part_at;
 use der::head;
 use der::head::Head;
-use crate::part_at;
 ghost use mathlib.Core.Path.{_≡_};
 ghost use Prim.Native.Nat.{_+_, _-_, _^_, _<_};
 ghost use lib.ListN.{take, drop};

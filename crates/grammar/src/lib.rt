@@ -83,4 +83,3 @@ pub fn part_at(m: &[u8], start: usize, len: usize) -> &[u8]
     let end = start + len;
     &m[start..end]
 }
-

@@ -1,10 +1,10 @@
 // Reads a message from standard input and prints where its parts are, start and length, or by which number it is refused.
-use libc::STDIN_FILENO;
-use libc::STDOUT_FILENO;
 use grammar::Message;
 use grammar::Offset;
-use message::Reading;
 use grammar::Span;
+use libc::STDIN_FILENO;
+use libc::STDOUT_FILENO;
+use message::Reading;
 
 fn put_number(n: usize) {
     io::write_all(STDOUT_FILENO, b" ");

@@ -1,0 +1,21 @@
+use Rattle.der.proofs.Auto.{tests, told}
+use native.Mathlib.Omega.{arith}
+use mathlib.Core.Path.{sym, _∙_}
+use Rattle.der.specs.Element.{check}
+use Rattle.der.proofs.ElementLaws.{fault-in}
+use Rattle.duskstall.specs.Host.{checkAnswer}
+use Rattle.duskstall.proofs.duskstall_check.Statement.{statement}
+use Rattle.duskstall.proofs.duskstall_check.Tie as tie
+
+pub duskstall-check-spec : {M : Type 1} → statement M
+unfolding checkAnswer check
+duskstall-check-spec = tie.close (tie.spec
+    (λ c. search tests)
+    (λ c κs. search tests)
+    (λ c. search tests)
+    (λ c. search tests)
+    (λ c. omega (arith, fault-in _ 0 (c .before .before .before .before .before .before .args .bytes .now) (told (c .before .before .before .check-elements .ensures) (c .before .c .given .1))))
+    (λ c κs. search tests)
+    (λ c. omega (arith, fault-in _ 0 (c .before .before .before .before .before .before .before .args .bytes .now) (told (c .before .before .before .before .check-elements .ensures) (c .before .before .c .given .1))))
+    (λ c. search (tests, told (c .before .before .check-elements .ensures) (c .enum-told .given .1)))
+    (λ c. search (tests, c .small .ensures, told (c .before .before .before .before .check-elements .ensures) (c .before .before .c .given .1))))

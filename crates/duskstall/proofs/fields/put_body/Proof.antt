@@ -1,0 +1,22 @@
+use Rattle.der.proofs.Auto.{tests}
+use Prim.Native.Nat.{ℕ}
+use mathlib.Core.Path.{_∙_, ap}
+use mathlib.Core.Bool.{cond}
+use Rattle.message.specs.Read.{protectedLength}
+use Rattle.duskstall.proofs.Chain.{after}
+use Rattle.duskstall.specs.Host.{putNumber, putSpan, putNames, putIds, putEntry, putBody, putProtected, putMessage}
+use Rattle.duskstall.proofs.fields.put_body.Statement.{statement}
+use Rattle.duskstall.proofs.fields.put_body.Tie as tie
+
+pub put-body-spec : {M : Type 1} → statement M
+unfolding putBody
+put-body-spec = tie.close (tie.spec
+    (λ c κs. search tests)
+    (λ c κs. search tests)
+    (λ c κs. search tests)
+    (λ c κs. search tests)
+    (λ c. search tests)
+    (λ c. let a = c .before .before .before .before .before .before .before .before .before .before .before .before .before .before .before .before .before .args .b in after (putEntry (a .entry)) (c .before .before .put-entry .ensures) (
+    after (putSpan 33 34 (a .«ca_pubs»)) (c .before .before .before .before .before .before .put-span .ensures) (
+    after (putNumber 2 (a .entries)) (c .before .before .before .before .before .before .before .before .before .before .put-size .ensures) (
+    (c .before .before .before .before .before .before .before .before .before .before .before .before .before .before .put-small .ensures))))))

@@ -1,0 +1,28 @@
+use Rattle.der.proofs.Auto.{tests}
+use Prim.Native.Nat.{ℕ}
+use mathlib.Core.Path.{_∙_, ap}
+use mathlib.Core.Bool.{cond}
+use Rattle.message.specs.Read.{protectedLength}
+use Rattle.duskstall.proofs.Chain.{after}
+use Rattle.duskstall.specs.Host.{putNumber, putSpan, putNames, putIds, putEntry, putBody, putProtected, putMessage}
+use Rattle.duskstall.proofs.fields.put_entry.Statement.{statement}
+use Rattle.duskstall.proofs.fields.put_entry.Tie as tie
+
+pub put-entry-spec : {M : Type 1} → statement M
+unfolding putEntry
+put-entry-spec = tie.close (tie.spec
+    (λ c κs. search tests)
+    (λ c κs. search tests)
+    (λ c κs. search tests)
+    (λ c κs. search tests)
+    (λ c κs. search tests)
+    (λ c κs. search tests)
+    (λ c κs. search tests)
+    (λ c. search tests)
+    (λ c. let a = c .before .before .before .before .before .before .before .before .before .before .before .before .before .before .before .before .before .before .before .before .before .before .before .before .before .before .before .before .before .args .e in after (putSpan 44 45 (a .request)) (c .before .before .put-span4 .ensures) (
+    after (putSpan 42 43 (a .certificate)) (c .before .before .before .before .before .before .put-span3 .ensures) (
+    after (putSpan 40 41 (a .«hash_alg»)) (c .before .before .before .before .before .before .before .before .before .before .put-span2 .ensures) (
+    after (putSpan 38 39 (a .«cert_hash»)) (c .before .before .before .before .before .before .before .before .before .before .before .before .before .before .put-span .ensures) (
+    after (putNumber 37 (a .status)) (c .before .before .before .before .before .before .before .before .before .before .before .before .before .before .before .before .before .before .put-word2 .ensures) (
+    after (putNumber 36 (cond (a .«has_status») 1 0)) (c .before .before .before .before .before .before .before .before .before .before .before .before .before .before .before .before .before .before .before .before .before .before .put-flag .ensures) (
+    (c .before .before .before .before .before .before .before .before .before .before .before .before .before .before .before .before .before .before .before .before .before .before .before .before .before .before .put-word .ensures)))))))))
