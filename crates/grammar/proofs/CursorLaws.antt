@@ -16,7 +16,7 @@ use Rattle.der.specs.declared.head.Head.the-variants.{Bad, Whole}
 use Rattle.der.proofs.Auto.{and-left, and-right}
 use Rattle.der.proofs.HeadLaws.{cond-both, span-in}
 use Rattle.grammar.specs.declared.cursor.Cursor.{Cursor}
-use Rattle.grammar.specs.Cursor.{headAt, faultAt, ifTag, needOf, leaveOf, shiftIn, signed32, moreAt, leftAt, repeat}
+use Rattle.grammar.specs.Cursor.{isOk, headAt, faultAt, ifTag, needOf, leaveOf, shiftIn, signed32, moreAt, leftAt, repeat}
 
 -- a whole element that a cursor meets ends where its parent ends or before, inside the message
 pub head-at-in : (m : List ℕ) (c : Cursor) {r : Head} {tag start len : ℕ} → r ≡ headAt m c → r ≡ Whole tag start len → (2 ≤ start) × (c .at + start + len ≤ c .end) × (c .end ≤ length m)
@@ -49,8 +49,8 @@ signed-none (x ∷ s) e = absurd (omega arith)
 
 -- from c to r the cursor went on under the same end, if all is right
 pub record Moved (c r : Cursor) : Type 0 where
-  pub end : r .ok ≡ true → r .end ≡ c .end
-  pub on : r .ok ≡ true → c .at < r .at
+  pub end : isOk r ≡ true → r .end ≡ c .end
+  pub on : isOk r ≡ true → c .at < r .at
 
 never : {X : Type 0} → false ≡ true → X
 never e = absurd (true≢false (sym e))
@@ -65,11 +65,11 @@ moved-past m tag c (Whole t start len) e =
 pub moved-need : (m : List ℕ) (tag : ℕ) (c : Cursor) → Moved c (needOf m tag c)
 unfolding needOf
 moved-need m tag c =
-    cond-both (Moved c) (c .ok) (λ q. moved-past m tag c (headAt m c) refl) (λ q. record { end = λ k. never (sym q ∙ k); on = λ k. never (sym q ∙ k) })
+    cond-both (Moved c) (isOk c) (λ q. moved-past m tag c (headAt m c) refl) (λ q. record { end = λ k. never (sym q ∙ k); on = λ k. never (sym q ∙ k) })
 
 pub moved-leave : {c s : Cursor} (i : Cursor) → Moved c s → Moved c (leaveOf s i)
 unfolding leaveOf
-moved-leave {c} i h = cond-both (Moved c) (i .ok) (λ q. h) (λ q. record { end = λ k. never (sym q ∙ k); on = λ k. never (sym q ∙ k) })
+moved-leave {c} i h = cond-both (Moved c) (isOk i) (λ q. h) (λ q. record { end = λ k. never (sym q ∙ k); on = λ k. never (sym q ∙ k) })
 
 -- ## A loop over elements, for any state that has a cursor and any step that moves it
 
@@ -92,10 +92,10 @@ module _ {S : Type 0} (cur : S → Cursor) (step : S → S) (moves : (s : S) →
   pub left-less : (s : S) → moreAt (cur s) ≡ true → leftAt (cur (step s)) < leftAt (cur s)
   unfolding moreAt
   left-less s e =
-      let ok = and-left (cur s .ok) (ltb (cur s .at) (cur s .end)) e in
-      let more = ltb-true (cur s .at) (cur s .end) (and-right (cur s .ok) (ltb (cur s .at) (cur s .end)) e) in
+      let ok = and-left (isOk (cur s)) (ltb (cur s .at) (cur s .end)) e in
+      let more = ltb-true (cur s .at) (cur s .end) (and-right (isOk (cur s)) (ltb (cur s .at) (cur s .end)) e) in
       rw ok
-      (cond-both (λ (k : ℕ). k < cur s .end - cur s .at) (cur (step s) .ok)
+      (cond-both (λ (k : ℕ). k < cur s .end - cur s .at) (isOk (cur (step s)))
       (λ q. omega (arith, moves s .end q, moves s .on q))
       (λ q. omega arith))
 

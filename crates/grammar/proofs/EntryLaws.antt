@@ -11,7 +11,7 @@ use Rattle.grammar.specs.declared.cursor.Cursor.{Cursor}
 use Rattle.grammar.specs.declared.entries.Entries.{Entries}
 use Rattle.grammar.specs.declared.entries.EntryKind.{EntryKind}
 use Rattle.grammar.specs.declared.entries.EntryKind.the-variants as of
-use Rattle.grammar.specs.Cursor.{moreAt}
+use Rattle.grammar.specs.Cursor.{isOk, moreAt}
 use Rattle.grammar.specs.Entries.{requestOf, responseOf, statusEntry, entryOf, next}
 use Rattle.grammar.proofs.CursorLaws.{Moved, moved-need, moved-leave}
 
@@ -26,14 +26,14 @@ moved-next m what e = moved-entry m what (e .cur)
 
 -- while all is right, there are at most as many entries as bytes were passed, and the end is an offset
 abbrev pub Counted : Entries → Type 0
-Counted e = e .cur .ok ≡ true → (e .count ≤ e .cur .at) × (e .cur .end < 2 ^ 64)
+Counted e = isOk (e .cur) ≡ true → (e .count ≤ e .cur .at) × (e .cur .end < 2 ^ 64)
 
-pub counted-next : (m : List ℕ) (what : EntryKind) (e : Entries) → Counted e → e .cur .ok ≡ true → Counted (next m what e)
+pub counted-next : (m : List ℕ) (what : EntryKind) (e : Entries) → Counted e → isOk (e .cur) ≡ true → Counted (next m what e)
 counted-next m what e h ok k = omega (arith, h ok, moved-next m what e .end k, moved-next m what e .on k)
 
 -- so there is room to count one more
 pub room : (e : Entries) → Counted e → moreAt (e .cur) ≡ true → e .count + 1 < 2 ^ 64
 unfolding moreAt
 room e h t =
-    let ok = and-left (e .cur .ok) (ltb (e .cur .at) (e .cur .end)) t in
-    omega (arith, h ok, ltb-true (e .cur .at) (e .cur .end) (and-right (e .cur .ok) (ltb (e .cur .at) (e .cur .end)) t))
+    let ok = and-left (isOk (e .cur)) (ltb (e .cur .at) (e .cur .end)) t in
+    omega (arith, h ok, ltb-true (e .cur .at) (e .cur .end) (and-right (isOk (e .cur)) (ltb (e .cur .at) (e .cur .end)) t))

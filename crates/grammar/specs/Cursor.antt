@@ -1,5 +1,5 @@
--- A cursor over a message and the verbs that every grammar rule is made of. A fault sticks: each verb hands a faulty cursor on,
--- and it goes on standing where the fault is.
+-- A cursor over a message and the verbs that every grammar rule is made of. A fault (rule 5) sticks: each verb hands a faulty
+-- cursor on, and it goes on standing where the fault is.
 use Prim.Native.Nat.{ℕ, zero, suc, _+_, _-_, _*_, _%_}
 use mathlib.Core.List.{List, [], _∷_}
 use mathlib.Core.Bool.{Bool, true, false, cond, _&&_, _||_}
@@ -9,6 +9,10 @@ use Rattle.der.specs.Head.{byte, headOf}
 use Rattle.der.specs.declared.head.Head.{Head}
 use Rattle.der.specs.declared.head.Head.the-variants.{Bad, Whole}
 use Rattle.grammar.specs.declared.cursor.Cursor.{Cursor}
+
+-- nothing is broken so far
+abbrev pub isOk : Cursor → Bool
+isOk c = eqb (c .rule) 0
 
 -- tag and length of the next element, which must end where its parent ends or before
 unfoldable pub headAt : List ℕ → Cursor → Head
@@ -20,11 +24,11 @@ tagAt m c = cond (ltb (c .at) (c .end) && leb (c .end) (length m)) (getD m (c .a
 
 -- what comes next, or is missing at the parent's end, is at fault
 abbrev pub faultAt : Cursor → Cursor
-faultAt c = record { at = c .at; end = c .end; from = c .from; to = c .to; ok = false }
+faultAt c = record { at = c .at; end = c .end; from = c .from; to = c .to; rule = 5 }
 
 -- past an element whose content is `len` bytes from `start` on
 abbrev pub pastOf : Cursor → ℕ → ℕ → Cursor
-pastOf c start len = record { at = c .at + start + len; end = c .end; from = c .at + start; to = c .at + start + len; ok = true }
+pastOf c start len = record { at = c .at + start + len; end = c .end; from = c .at + start; to = c .at + start + len; rule = 0 }
 
 -- past it where its tag is the one asked
 abbrev pub ifTag : ℕ → Cursor → Head → Cursor
@@ -33,15 +37,19 @@ ifTag tag c (Whole t start len) = cond (eqb t tag) (pastOf c start len) (faultAt
 
 -- an element with this tag comes next
 unfoldable pub needOf : List ℕ → ℕ → Cursor → Cursor
-needOf m tag c = cond (c .ok) (ifTag tag c (headAt m c)) c
+needOf m tag c = cond (isOk c) (ifTag tag c (headAt m c)) c
 
 -- one element comes next, whatever its tag
+abbrev pub ifWhole : Cursor → Head → Cursor
+ifWhole c (Bad rule) = faultAt c
+ifWhole c (Whole t start len) = pastOf c start len
+
 unfoldable pub anyOf : List ℕ → Cursor → Cursor
-anyOf m c = needOf m (tagAt m c) c
+anyOf m c = cond (isOk c) (ifWhole c (headAt m c)) c
 
 -- nothing was read here: no span
 abbrev pub noneOf : Cursor → Cursor
-noneOf c = record { at = c .at; end = c .end; from = 0; to = 0; ok = c .ok }
+noneOf c = record { at = c .at; end = c .end; from = 0; to = 0; rule = c .rule }
 
 -- an element with this tag may come next
 unfoldable pub maybeOf : List ℕ → ℕ → Cursor → Cursor
@@ -57,11 +65,11 @@ doneOf c = cond (ltb (c .at) (c .end)) (faultAt c) c
 
 -- into the element read last
 unfoldable pub enterOf : Cursor → Cursor
-enterOf c = cond (c .ok) (record { at = c .from; end = c .to; from = 0; to = 0; ok = true }) c
+enterOf c = cond (isOk c) (record { at = c .from; end = c .to; from = 0; to = 0; rule = 0 }) c
 
 -- back out of it, with a fault that was met inside
 unfoldable pub leaveOf : Cursor → Cursor → Cursor
-leaveOf outer inner = cond (inner .ok) outer inner
+leaveOf outer inner = cond (isOk inner) outer inner
 
 -- the bytes from `start` on, `len` of them; none where the message has not so many
 unfoldable pub partOf : List ℕ → ℕ → ℕ → List ℕ
@@ -90,11 +98,11 @@ smallOf m c = let n : Cursor = needOf m 0x02 c in cond (ltb 4 (n .to - n .from))
 
 -- another element is to be read
 unfoldable pub moreAt : Cursor → Bool
-moreAt c = c .ok && ltb (c .at) (c .end)
+moreAt c = isOk c && ltb (c .at) (c .end)
 
 -- how many bytes are left
 abbrev pub leftAt : Cursor → ℕ
-leftAt c = cond (c .ok) (c .end - c .at) 0
+leftAt c = cond (isOk c) (c .end - c .at) 0
 
 -- one step after another while an element is to be read; each step takes a byte at least, so that there are no more than bytes left
 unfoldable pub repeat : {S : Type 0} → (S → Cursor) → (S → S) → ℕ → S → S

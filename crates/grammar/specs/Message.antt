@@ -15,7 +15,7 @@ use Rattle.grammar.specs.Body.{bodyOf}
 
 -- at the message's first byte
 unfoldable pub startAt : ℕ → Cursor
-startAt end = record { at = 0; end = end; from = 0; to = 0; ok = true }
+startAt end = record { at = 0; end = end; from = 0; to = 0; rule = 0 }
 
 -- PKIMessage ::= SEQUENCE of header, body, optional protection [0] BIT STRING, optional extraCerts [1] SEQUENCE of one or more
 -- certificates. Nothing after it.

@@ -11,7 +11,7 @@ use Rattle.grammar.specs.declared.cursor.Cursor.{Cursor}
 use Rattle.grammar.specs.declared.parts.Each.{Each}
 use Rattle.grammar.specs.declared.parts.Each.the-variants.{Text, Certificate, Info}
 use Rattle.grammar.specs.declared.parts.Status.{Status}
-use Rattle.grammar.specs.Cursor.{tagAt, faultAt, needOf, anyOf, noneOf, restOf, doneOf, enterOf, leaveOf, contentOf, valueOf, smallOf, leftAt, repeat}
+use Rattle.grammar.specs.Cursor.{isOk, tagAt, faultAt, needOf, anyOf, noneOf, restOf, doneOf, enterOf, leaveOf, contentOf, valueOf, smallOf, leftAt, repeat}
 
 -- ## Spans
 
@@ -37,7 +37,7 @@ outerSpan before after = cond (eqb (after .from) 0) noSpan (wholeSpan before aft
 
 -- back out of an element, with the span of what was found inside
 unfoldable pub foundOf : Cursor → Cursor → Cursor
-foundOf outer inner = cond (inner .ok) (record { at = outer .at; end = outer .end; from = inner .from; to = inner .to; ok = outer .ok }) inner
+foundOf outer inner = cond (isOk inner) (record { at = outer .at; end = outer .end; from = inner .from; to = inner .to; rule = outer .rule }) inner
 
 -- ## SEQUENCE, SEQUENCE OF and explicit tags
 

@@ -7,14 +7,14 @@ ghost use Prim.Native.Nat.{_+_, _-_, _^_, _<_};
 ghost use lib.ListN.{take, drop};
 ghost use Rattle.grammar.specs.Cursor.{headAt, tagAt, faultAt, pastOf, needOf, anyOf, noneOf, maybeOf, restOf, doneOf, enterOf, leaveOf, partOf, contentOf, valueOf, smallOf, moreAt, shiftIn, signed32};
 
-// Where the next element is sought and where its parent ends; what the last one held; and whether all was right so far.
-// A faulty cursor stands at its fault.
+// Where the next element is sought and where its parent ends; what the last one held; and the rule that is broken where the
+// cursor stands, 0 while all is right.
 pub struct Cursor {
     pub at: usize,
     pub end: usize,
     pub from: usize,
     pub to: usize,
-    pub ok: bool,
+    pub rule: usize,
 }
 
 fn head_at(m: &[u8], c: Cursor) -> Head
@@ -53,7 +53,7 @@ pub(crate) fn fault_at(c: Cursor) -> Cursor
         end: c.end,
         from: c.from,
         to: c.to,
-        ok: false,
+        rule: 5,
     }
 }
 
@@ -68,7 +68,7 @@ fn past(c: Cursor, start: usize, len: usize) -> Cursor
         end: c.end,
         from,
         to,
-        ok: true,
+        rule: 0,
     }
 }
 
@@ -76,7 +76,7 @@ fn past(c: Cursor, start: usize, len: usize) -> Cursor
 pub(crate) fn need(m: &[u8], c: Cursor, tag: u8) -> Cursor
     ensures { λ r. ⌜ r ≡ needOf (now (m .entry)) tag c ⌝ }
 {
-    if c.ok {
+    if c.rule == 0 {
         let h = head_at(m, c);
         match h {
             Head::Bad(_) => fault_at(c),
@@ -97,7 +97,15 @@ pub(crate) fn need(m: &[u8], c: Cursor, tag: u8) -> Cursor
 pub(crate) fn any(m: &[u8], c: Cursor) -> Cursor
     ensures { λ r. ⌜ r ≡ anyOf (now (m .entry)) c ⌝ }
 {
-    need(m, c, tag_at(m, c))
+    if c.rule == 0 {
+        let h = head_at(m, c);
+        match h {
+            Head::Bad(_) => fault_at(c),
+            Head::Whole { tag: _, start, len } => past(c, start, len),
+        }
+    } else {
+        c
+    }
 }
 
 // Nothing was read here: no span.
@@ -109,7 +117,7 @@ pub(crate) fn none(c: Cursor) -> Cursor
         end: c.end,
         from: 0,
         to: 0,
-        ok: c.ok,
+        rule: c.rule,
     }
 }
 
@@ -142,13 +150,13 @@ pub(crate) fn done(c: Cursor) -> Cursor
 pub(crate) fn enter(c: Cursor) -> Cursor
     ensures { λ r. ⌜ r ≡ enterOf c ⌝ }
 {
-    if c.ok {
+    if c.rule == 0 {
         Cursor {
             at: c.from,
             end: c.to,
             from: 0,
             to: 0,
-            ok: true,
+            rule: 0,
         }
     } else {
         c
@@ -159,7 +167,7 @@ pub(crate) fn enter(c: Cursor) -> Cursor
 pub(crate) fn leave(outer: Cursor, inner: Cursor) -> Cursor
     ensures { λ r. ⌜ r ≡ leaveOf outer inner ⌝ }
 {
-    if inner.ok { outer } else { inner }
+    if inner.rule == 0 { outer } else { inner }
 }
 
 // From one offset up to another.
@@ -231,5 +239,5 @@ pub(crate) fn small(m: &[u8], c: Cursor) -> Cursor
 pub(crate) fn more(c: Cursor) -> bool
     ensures { λ r. ⌜ r ≡ moreAt c ⌝ }
 {
-    if c.ok { c.at < c.end } else { false }
+    if c.rule == 0 { c.at < c.end } else { false }
 }

@@ -71,13 +71,13 @@ pub(crate) fn outer_span(before: Cursor, after: Cursor) -> Span
 pub(crate) fn found(outer: Cursor, inner: Cursor) -> Cursor
     ensures { λ r. ⌜ r ≡ foundOf outer inner ⌝ }
 {
-    if inner.ok {
+    if inner.rule == 0 {
         Cursor {
             at: outer.at,
             end: outer.end,
             from: inner.from,
             to: inner.to,
-            ok: outer.ok,
+            rule: outer.rule,
         }
     } else {
         inner

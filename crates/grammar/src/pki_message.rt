@@ -30,7 +30,7 @@ fn start_at(end: usize) -> Cursor
         end,
         from: 0,
         to: 0,
-        ok: true,
+        rule: 0,
     }
 }
 

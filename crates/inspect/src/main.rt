@@ -11,6 +11,10 @@ fn put_number(n: usize) {
     io::print_decimal(STDOUT_FILENO, n as u64);
 }
 
+fn put_small(n: u8) {
+    put_number(n as usize);
+}
+
 fn end_line() {
     io::write_all(STDOUT_FILENO, b"\n");
 }
@@ -28,7 +32,7 @@ fn put_message(m: Message) {
     let kind = contents.kind;
     let entry = contents.entry;
     io::write_all(STDOUT_FILENO, b"kind");
-    put_number(kind as usize);
+    put_small(kind);
     end_line();
     put_span(b"header", m.header);
     put_span(b"body", m.body);
@@ -49,7 +53,7 @@ fn main() {
         Reading::Clean(m) => put_message(m),
         Reading::Refused(fault) => {
             io::write_all(STDOUT_FILENO, b"refused");
-            put_number(fault.number as usize);
+            put_small(fault.number);
             end_line();
         }
     }

@@ -12,7 +12,7 @@ use Rattle.grammar.specs.declared.Message.{Message}
 use Rattle.message.specs.declared.Reading.{Reading}
 use Rattle.message.specs.declared.Reading.the-variants.{Clean, Refused}
 use Rattle.grammar.specs.declared.pki_message.MessageRead.{MessageRead}
-use Rattle.grammar.specs.Cursor.{partOf}
+use Rattle.grammar.specs.Cursor.{isOk, partOf}
 use Rattle.grammar.specs.Message.{messageOf}
 
 -- messages of 1 to 16,384 bytes
@@ -29,8 +29,8 @@ broken at rule = Refused (record { number = 2; at = record { 0 = at }; rule = ru
 
 -- the lower of the two faults, if there is one; at one offset DER's rules 1 to 4 come before the grammar's 5
 unfoldable pub lowest : Check → MessageRead → Reading
-lowest Sound g = cond (g .cur .ok) (Clean (g .found)) (broken (g .cur .at) 5)
-lowest (Fault at rule) g = cond (g .cur .ok) (broken at rule) (cond (ltb (g .cur .at) at) (broken (g .cur .at) 5) (broken at rule))
+lowest Sound g = cond (isOk (g .cur)) (Clean (g .found)) (broken (g .cur .at) 5)
+lowest (Fault at rule) g = cond (isOk (g .cur)) (broken at rule) (cond (ltb (g .cur .at) at) (broken (g .cur .at) 5) (broken at rule))
 
 unfoldable pub readingOf : List ℕ → Reading
 readingOf m = cond (eqb (length m) 0 || ltb maxMessage (length m)) badLength (lowest (check m) (messageOf m))

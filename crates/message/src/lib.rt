@@ -39,7 +39,7 @@ fn lower(at: usize, rule: u8, g: MessageRead) -> Reading
     ensures { λ r. ⌜ r ≡ lowest (Check.Fault at rule) g ⌝ }
 {
     let cur = g.cur;
-    if cur.ok {
+    if cur.rule == 0 {
         return broken_at(at, rule);
     }
     if cur.at < at {
@@ -55,7 +55,7 @@ fn lowest_fault(c: Check, g: MessageRead) -> Reading
         Check::Fault(at, rule) => lower(at, rule, g),
         Check::Sound => {
             let cur = g.cur;
-            if cur.ok {
+            if cur.rule == 0 {
                 let found = g.found;
                 return Reading::Clean(found);
             }

@@ -6,5 +6,5 @@ use Rattle.grammar.proofs.cursor.leave.Tie as tie
 pub leave-spec : {M : Type 1} → statement M
 unfolding leaveOf
 leave-spec = tie.close (tie.spec
-    (λ c. search (tests, c .if1 .taken))
-    (λ c. search (tests, c .if1 .left)))
+    (λ c. search tests)
+    (λ c. search tests))

@@ -6,5 +6,5 @@ use Rattle.grammar.proofs.cursor.more.Tie as tie
 pub more-spec : {M : Type 1} → statement M
 unfolding moreAt
 more-spec = tie.close (tie.spec
-    (λ c. search (tests, c .before .if1 .taken))
-    (λ c. search (tests, c .if1 .left)))
+    (λ c. search tests)
+    (λ c. search tests))
