@@ -1,15 +1,16 @@
 -- Laws of tag and length: a head that is whole takes two to four bytes, and its content ends inside the parent.
-use Prim.Native.Nat.{ℕ, _+_, _-_, _*_, _≤_}
-use mathlib.Core.Path.{_≡_, refl, sym, _∙_, subst}
+use Prim.Native.Nat.{ℕ, _+_, _-_, _*_, _/_, _%_, _<_, _≤_}
+use mathlib.Core.Path.{_≡_, refl, sym, _∙_, ap, subst}
+use native.Mathlib.Nat.{mul-add-mod-self-right, mod-eq-of-lt, mul-add-div-right, div-eq-of-lt, add-zero}
 use mathlib.Core.List.{List}
 use mathlib.Core.Bool.{Bool, true, false, cond, _||_}
 use native.Mathlib.Omega.{arith}
 use borrow.Author.Tests.{leb-true}
 use lib.ListN.{length, getD, take, drop, length-take}
-use lib.Dec.{ltb, leb, eqb, lit≤}
+use lib.Dec.{ltb, leb, eqb, lit≤, lit<}
 use Rattle.der.specs.declared.head.Head.{Head}
 use Rattle.der.specs.declared.head.Head.the-variants.{Bad, Whole}
-use Rattle.der.specs.Head.{tagOk, inside, lengthOf, oneByte, twoBytes, headOf}
+use Rattle.der.specs.Head.{byte, tagOk, inside, lengthOf, oneByte, twoBytes, headOf, packedOf, fitOf, brokenRule}
 
 -- what holds in each case of a test, under that case
 pub cond-both {ℓ ℓ′} : {A : Type ℓ} (P : A → Type ℓ′) (b : Bool) {x y : A} → (b ≡ true → P x) → (b ≡ false → P y) → P (cond b x y)
@@ -59,3 +60,60 @@ whole-in s e k = subst (HeadIn (length s)) (sym e ∙ k) (head-in s)
 -- a whole element at a, in what is left up to e, ends by e
 pub span-in : (m : List ℕ) (a e : ℕ) {r : Head} {tag start len : ℕ} → a ≤ e → r ≡ headOf (take (e - a) (drop a m)) → r ≡ Whole tag start len → (2 ≤ start) × (a + start + len ≤ e)
 span-in m a e h is k = omega (arith, whole-in (take (e - a) (drop a m)) is k, length-take (e - a) (drop a m))
+
+-- ## A head as one number
+
+pub packed-inside : (n tag start len : ℕ) → packedOf (inside n tag start len) ≡ fitOf n start len
+unfolding inside
+packed-inside n tag start len = cond-both (λ (h : Head). packedOf h ≡ fitOf n start len) (leb (start + len) n) (λ e. simp e) (λ e. simp e)
+
+-- what a number says of its head: 0 that it is bad, and any other where the content is
+unfoldable Packs : List ℕ → Head → Type 0
+Packs s (Bad rule) = rule ≡ brokenRule s
+Packs s (Whole tag start len) = (tag ≡ byte s 0) × (2 ≤ start) × (start ≤ 4)
+
+inside-packs : (s : List ℕ) (start len : ℕ) → brokenRule s ≡ 2 → 2 ≤ start → start ≤ 4 → Packs s (inside (length s) (byte s 0) start len)
+unfolding inside Packs
+inside-packs s start len b h k = cond-both (Packs s) (leb (start + len) (length s)) (λ e. (refl, h, k)) (λ e. sym b)
+
+length-packs : (s : List ℕ) → brokenRule s ≡ 2 → Packs s (lengthOf s)
+unfolding lengthOf oneByte twoBytes Packs
+length-packs s b =
+    let P : Head → Type 0 = Packs s in
+    let bad : P (Bad 2) = sym b in
+    cond-case P (ltb (length s) 2) bad
+    (cond-case P (ltb (byte s 1) 128) (inside-packs s 2 (byte s 1) b (lit≤ tt) (lit≤ tt))
+    (cond-case P (eqb (byte s 1) 129) (cond-case P (ltb (length s) 3 || ltb (byte s 2) 128) bad (inside-packs s 3 (byte s 2) b (lit≤ tt) (lit≤ tt)))
+    (cond-case P (eqb (byte s 1) 130) (cond-case P (ltb (length s) 4 || eqb (byte s 2) 0) bad (inside-packs s 4 (byte s 2 * 256 + byte s 3) b (lit≤ tt) (lit≤ tt))) bad)))
+
+head-packs : (s : List ℕ) → Packs s (headOf s)
+unfolding headOf Packs brokenRule
+head-packs s =
+    cond-both (Packs s) (eqb (length s) 0) (λ e. simp e) λ e.
+    cond-both (Packs s) (tagOk (byte s 0)) (λ u. length-packs s (simp (e, u))) (λ u. simp (e, u))
+
+whole-of : (s : List ℕ) (h : Head) → Packs s h → {p : ℕ} → p ≡ packedOf h → (p ≡ 0 → ⊥) → h ≡ Whole (byte s 0) (p % 8) (p / 8)
+unfolding Packs
+whole-of s (Bad rule) w e n = absurd (n e)
+whole-of s (Whole tag start len) w {p} e n =
+    let small : start < 8 = omega arith in
+    let low : p % 8 ≡ start = ap (λ (k : ℕ). k % 8) e ∙ mul-add-mod-self-right len 8 start ∙ mod-eq-of-lt small in
+    let high : p / 8 ≡ len = ap (λ (k : ℕ). k / 8) e ∙ mul-add-div-right (lit< tt) len start ∙ ap (λ (k : ℕ). len + k) (div-eq-of-lt small) ∙ add-zero len in
+    cc
+
+bad-of : (s : List ℕ) (h : Head) → Packs s h → 0 ≡ packedOf h → h ≡ Bad (brokenRule s)
+unfolding Packs
+bad-of s (Bad rule) w e = ap Bad w
+bad-of s (Whole tag start len) w e = absurd (omega arith)
+
+-- what a number other than 0 packs, and what 0 does
+pub packed-whole : (s : List ℕ) {p : ℕ} → p ≡ packedOf (headOf s) → (p ≡ 0 → ⊥) → headOf s ≡ Whole (byte s 0) (p % 8) (p / 8)
+packed-whole s e n = whole-of s (headOf s) (head-packs s) e n
+
+pub packed-bad : (s : List ℕ) {p : ℕ} → p ≡ packedOf (headOf s) → p ≡ 0 → headOf s ≡ Bad (brokenRule s)
+packed-bad s e z = bad-of s (headOf s) (head-packs s) (sym z ∙ e)
+
+-- the tag of a whole head is its first byte
+pub whole-tag : (s : List ℕ) {tag start len : ℕ} → headOf s ≡ Whole tag start len → tag ≡ byte s 0
+unfolding Packs
+whole-tag s e = subst (Packs s) e (head-packs s) .0

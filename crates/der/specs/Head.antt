@@ -41,6 +41,19 @@ lengthOf s =
 unfoldable pub headOf : List ℕ → Head
 headOf s = cond (eqb (length s) 0) (Bad 2) (cond (tagOk (byte s 0)) (lengthOf s) (Bad 1))
 
+-- A head as one number: the content's length times 8, and the bytes that tag and length take; 0 where it is bad.
+abbrev pub packedOf : Head → ℕ
+packedOf (Bad rule) = 0
+packedOf (Whole tag start len) = len * 8 + start
+
+-- the same of a tag that may stand and a length that is read
+abbrev pub fitOf : ℕ → ℕ → ℕ → ℕ
+fitOf n start len = cond (leb (start + len) n) (len * 8 + start) 0
+
+-- the rule that a bad head breaks
+unfoldable pub brokenRule : List ℕ → ℕ
+brokenRule s = cond (eqb (length s) 0) 2 (cond (tagOk (byte s 0)) 2 1)
+
 -- The other way: the bytes of a tag and a content length below 65,536. They are the only ones (`one-form` in proofs/OneForm.antt).
 unfoldable pub headBytes : ℕ → ℕ → List ℕ
 headBytes tag len =

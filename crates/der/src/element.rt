@@ -66,11 +66,11 @@ fn judge_whole(s: &[u8], depth: u8, tag: u8, start: usize, len: usize) -> Elemen
 fn first(s: &[u8], depth: u8) -> Element
     ensures { λ r. ⌜ r ≡ elementOf depth (now (s .entry)) ⌝ }
 {
-    let h = head::read(s);
-    match h {
-        Head::Bad(rule) => Element::Faulty(rule),
-        Head::Whole { tag, start, len } => judge_whole(s, depth, tag, start, len),
+    let p = head::packed(s);
+    if p == 0 {
+        return Element::Faulty(head::broken_rule(s));
     }
+    judge_whole(s, depth, head::first_byte(s), p % 8, p / 8)
 }
 
 fn first_at(s: &[u8], at: usize, depth: u8) -> Element

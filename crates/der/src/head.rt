@@ -1,7 +1,7 @@
 // Tag and length of an element: points 1 and 2 of document 01, "DER as we take it".
 ghost use mathlib.Core.Path.{_≡_};
 ghost use Prim.Native.Nat.{_<_};
-ghost use Rattle.der.specs.Head.{headOf, inside, tagOk, lengthOf, oneByte, twoBytes};
+ghost use Rattle.der.specs.Head.{byte, tagOk, fitOf, oneByte, twoBytes, lengthOf, headOf, packedOf, brokenRule};
 
 // An element whose content is `len` bytes from `start`, or the rule that its tag and length break.
 pub enum Head {
@@ -30,55 +30,52 @@ fn tag_ok(t: u8) -> bool
     }
 }
 
-fn fit(n: usize, tag: u8, start: usize, len: usize) -> Head
+// A head that is whole as one number: its content's length times 8, and how many bytes it takes itself. 0: it is bad.
+fn fit(n: usize, start: usize, len: usize) -> usize
     requires { ⌜ (start < 5) × (len < 65536) ⌝ }
-    ensures { λ r. ⌜ r ≡ inside n tag start len ⌝ }
+    ensures { λ r. ⌜ r ≡ fitOf n start len ⌝ }
 {
-    if start + len <= n {
-        Head::Whole { tag, start, len }
-    } else {
-        Head::Bad(2)
-    }
+    if start + len <= n { len * 8 + start } else { 0 }
 }
 
-fn one_byte(s: &[u8]) -> Head
-    ensures { λ r. ⌜ r ≡ oneByte (now (s .entry)) ⌝ }
+fn one_byte(s: &[u8]) -> usize
+    ensures { λ r. ⌜ r ≡ packedOf (oneByte (now (s .entry))) ⌝ }
 {
     let n = s.len();
     if n < 3 {
-        return Head::Bad(2);
+        return 0;
     }
     let a = s[2];
     if a < 128 {
-        return Head::Bad(2);
+        return 0;
     }
-    fit(n, s[0], 3, wide(a))
+    fit(n, 3, wide(a))
 }
 
-fn two_bytes(s: &[u8]) -> Head
-    ensures { λ r. ⌜ r ≡ twoBytes (now (s .entry)) ⌝ }
+fn two_bytes(s: &[u8]) -> usize
+    ensures { λ r. ⌜ r ≡ packedOf (twoBytes (now (s .entry))) ⌝ }
 {
     let n = s.len();
     if n < 4 {
-        return Head::Bad(2);
+        return 0;
     }
     let a = s[2];
     if a == 0 {
-        return Head::Bad(2);
+        return 0;
     }
-    fit(n, s[0], 4, wide(a) * 256 + wide(s[3]))
+    fit(n, 4, wide(a) * 256 + wide(s[3]))
 }
 
-fn read_length(s: &[u8]) -> Head
-    ensures { λ r. ⌜ r ≡ lengthOf (now (s .entry)) ⌝ }
+fn read_length(s: &[u8]) -> usize
+    ensures { λ r. ⌜ r ≡ packedOf (lengthOf (now (s .entry))) ⌝ }
 {
     let n = s.len();
     if n < 2 {
-        return Head::Bad(2);
+        return 0;
     }
     let first = s[1];
     if first < 128 {
-        return fit(n, s[0], 2, wide(first));
+        return fit(n, 2, wide(first));
     }
     if first == 129 {
         return one_byte(s);
@@ -86,19 +83,50 @@ fn read_length(s: &[u8]) -> Head
     if first == 130 {
         return two_bytes(s);
     }
-    Head::Bad(2)
+    0
+}
+
+// Tag and length as one number: the content's length times 8, and the bytes that tag and length take; 0 where they are bad.
+pub fn packed(s: &[u8]) -> usize
+    ensures { λ r. ⌜ r ≡ packedOf (headOf (now (s .entry))) ⌝ }
+{
+    if s.len() == 0 {
+        return 0;
+    }
+    if tag_ok(s[0]) { read_length(s) } else { 0 }
 }
 
 // Tag and length of the element that `s` begins with; `s` ends where the parent's content does.
 pub fn read(s: &[u8]) -> Head
     ensures { λ r. ⌜ r ≡ headOf (now (s .entry)) ⌝ }
 {
+    let p = packed(s);
+    if p == 0 {
+        return Head::Bad(broken_rule(s));
+    }
+    Head::Whole {
+        tag: first_byte(s),
+        start: p % 8,
+        len: p / 8,
+    }
+}
+
+// The first byte; 0, which is no tag, where there is none.
+pub fn first_byte(s: &[u8]) -> u8
+    ensures { λ r. ⌜ r ≡ byte (now (s .entry)) 0 ⌝ }
+{
     if s.len() == 0 {
-        return Head::Bad(2);
+        return 0;
     }
-    if tag_ok(s[0]) {
-        read_length(s)
-    } else {
-        Head::Bad(1)
+    s[0]
+}
+
+// The rule that a bad head breaks.
+pub fn broken_rule(s: &[u8]) -> u8
+    ensures { λ r. ⌜ r ≡ brokenRule (now (s .entry)) ⌝ }
+{
+    if s.len() == 0 {
+        return 2;
     }
+    if tag_ok(s[0]) { 2 } else { 1 }
 }

@@ -16,7 +16,7 @@ isOk c = eqb (c .rule) 0
 
 -- tag and length of the next element, which must end where its parent ends or before
 unfoldable pub headAt : List ℕ → Cursor → Head
-headAt m c = cond (leb (c .at) (c .end) && leb (c .end) (length m)) (headOf (take (c .end - c .at) (drop (c .at) m))) (Bad 2)
+headAt m c = cond (ltb (c .end) (c .at) || ltb (length m) (c .end)) (Bad 2) (headOf (take (c .end - c .at) (drop (c .at) m)))
 
 -- the tag byte of the next element; 0, which is no tag, where nothing is left
 unfoldable pub tagAt : List ℕ → Cursor → ℕ

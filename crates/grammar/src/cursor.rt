@@ -1,11 +1,11 @@
 // A cursor over a message, and the verbs that every grammar rule is made of. A fault sticks: each verb hands a faulty cursor on.
 use crate::part_at;
 use der::head;
-use der::head::Head;
 ghost use mathlib.Core.Path.{_≡_};
 ghost use Prim.Native.Nat.{_+_, _-_, _^_, _<_};
 ghost use lib.ListN.{take, drop};
-ghost use Rattle.grammar.specs.Cursor.{headAt, tagAt, faultAt, pastOf, needOf, anyOf, noneOf, maybeOf, restOf, doneOf, enterOf, leaveOf, partOf, contentOf, valueOf, smallOf, moreAt, shiftIn, signed32};
+ghost use Rattle.der.specs.Head.{packedOf};
+ghost use Rattle.grammar.specs.Cursor.{ifWhole, headAt, tagAt, faultAt, pastOf, needOf, anyOf, noneOf, maybeOf, restOf, doneOf, enterOf, leaveOf, partOf, contentOf, valueOf, smallOf, moreAt, shiftIn, signed32};
 
 // Where the next element is sought and where its parent ends; what the last one held; and the rule that is broken where the
 // cursor stands, 0 while all is right.
@@ -17,17 +17,19 @@ pub struct Cursor {
     pub rule: usize,
 }
 
-fn head_at(m: &[u8], c: Cursor) -> Head
-    ensures { λ r. ⌜ r ≡ headAt (now (m .entry)) c ⌝ }
+// Tag and length of the next element, as `head::packed` gives them.
+fn head_at(m: &[u8], c: Cursor) -> usize
+    ensures { λ r. ⌜ r ≡ packedOf (headAt (now (m .entry)) c) ⌝ }
 {
     let at = c.at;
     let end = c.end;
-    if at <= end {
-        if end <= m.len() {
-            return head::read(&m[at..end]);
-        }
+    if end < at {
+        return 0;
     }
-    Head::Bad(2)
+    if m.len() < end {
+        return 0;
+    }
+    head::packed(&m[at..end])
 }
 
 // The tag byte of the next element; 0, which is no tag, where nothing is left.
@@ -77,35 +79,30 @@ pub(crate) fn need(m: &[u8], c: Cursor, tag: u8) -> Cursor
     ensures { λ r. ⌜ r ≡ needOf (now (m .entry)) tag c ⌝ }
 {
     if c.rule == 0 {
-        let h = head_at(m, c);
-        match h {
-            Head::Bad(_) => fault_at(c),
-            Head::Whole { tag: t, start, len } => {
-                if t == tag {
-                    past(c, start, len)
-                } else {
-                    fault_at(c)
-                }
-            }
+        let t = tag_at(m, c);
+        if t == tag {
+            return past_head(m, c);
         }
-    } else {
-        c
+        return fault_at(c);
     }
+    c
+}
+
+fn past_head(m: &[u8], c: Cursor) -> Cursor
+    ensures { λ r. ⌜ r ≡ ifWhole c (headAt (now (m .entry)) c) ⌝ }
+{
+    let p = head_at(m, c);
+    if p == 0 {
+        return fault_at(c);
+    }
+    past(c, p % 8, p / 8)
 }
 
 // One element comes next, whatever its tag.
 pub(crate) fn any(m: &[u8], c: Cursor) -> Cursor
     ensures { λ r. ⌜ r ≡ anyOf (now (m .entry)) c ⌝ }
 {
-    if c.rule == 0 {
-        let h = head_at(m, c);
-        match h {
-            Head::Bad(_) => fault_at(c),
-            Head::Whole { tag: _, start, len } => past(c, start, len),
-        }
-    } else {
-        c
-    }
+    if c.rule == 0 { past_head(m, c) } else { c }
 }
 
 // Nothing was read here: no span.

@@ -8,7 +8,7 @@ unfolding headAt
 head-at-spec = tie.close (tie.spec
     (λ c. search tests)
     (λ c. search tests)
-    (λ c κs. search tests)
-    (λ c. search (tests, c .read .ensures))
     (λ c. search tests)
-    (λ c. search tests))
+    (λ c. search tests)
+    (λ c κs. search tests)
+    (λ c. search (tests, ← c .packed .ensures)))
