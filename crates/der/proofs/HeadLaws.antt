@@ -92,14 +92,18 @@ head-packs s =
     cond-both (Packs s) (eqb (length s) 0) (λ e. simp e) λ e.
     cond-both (Packs s) (tagOk (byte s 0)) (λ u. length-packs s (simp (e, u))) (λ u. simp (e, u))
 
+-- the two parts of such a number
+pub unpacked : (start len : ℕ) {p : ℕ} → start < 8 → p ≡ len * 8 + start → (p % 8 ≡ start) × (p / 8 ≡ len)
+unpacked start len small e = (
+  ap (λ (k : ℕ). k % 8) e ∙ mul-add-mod-self-right len 8 start ∙ mod-eq-of-lt small,
+  ap (λ (k : ℕ). k / 8) e ∙ mul-add-div-right (lit< tt) len start ∙ ap (λ (k : ℕ). len + k) (div-eq-of-lt small) ∙ add-zero len,
+)
+
 whole-of : (s : List ℕ) (h : Head) → Packs s h → {p : ℕ} → p ≡ packedOf h → (p ≡ 0 → ⊥) → h ≡ Whole (byte s 0) (p % 8) (p / 8)
 unfolding Packs
 whole-of s (Bad rule) w e n = absurd (n e)
 whole-of s (Whole tag start len) w {p} e n =
-    let small : start < 8 = omega arith in
-    let low : p % 8 ≡ start = ap (λ (k : ℕ). k % 8) e ∙ mul-add-mod-self-right len 8 start ∙ mod-eq-of-lt small in
-    let high : p / 8 ≡ len = ap (λ (k : ℕ). k / 8) e ∙ mul-add-div-right (lit< tt) len start ∙ ap (λ (k : ℕ). len + k) (div-eq-of-lt small) ∙ add-zero len in
-    cc
+    let u = unpacked start len (omega arith) e in cc (u .0, u .1)
 
 bad-of : (s : List ℕ) (h : Head) → Packs s h → 0 ≡ packedOf h → h ≡ Bad (brokenRule s)
 unfolding Packs

@@ -6,7 +6,7 @@ use mathlib.Core.Bool.{Bool, true, false, cond, _&&_, _||_, true≢false}
 use native.Mathlib.Nat.{le-refl, lt-irrefl, add-zero}
 use native.Mathlib.Numerals.{add-one}
 use native.Mathlib.Omega.{arith}
-use borrow.Author.Tests.{ltb-true, ltb-false, lt-ltb, le-leb, eq-eqb, ne-eqb}
+use borrow.Author.Tests.{ltb-true, ltb-false, leb-false, eq-eqb, ne-eqb}
 use lib.ListN.{length, getD, take, drop, drop-of-length-le}
 use lib.Seq.{drop-cons, getD-take, getD-drop}
 use lib.Dec.{ltb, leb, eqb, lit<}
@@ -14,66 +14,75 @@ use Rattle.der.specs.Head.{byte, headOf, packedOf}
 use Rattle.der.specs.declared.head.Head.{Head}
 use Rattle.der.specs.declared.head.Head.the-variants.{Bad, Whole}
 use Rattle.der.proofs.Auto.{and-left, and-right, or-left, or-right}
-use Rattle.der.proofs.HeadLaws.{cond-both, span-in, packed-whole, whole-tag}
+use Rattle.der.proofs.HeadLaws.{cond-both, span-in, whole-in, whole-tag, unpacked}
 use Rattle.grammar.specs.declared.cursor.Cursor.{Cursor}
-use Rattle.grammar.specs.Cursor.{isOk, headAt, tagAt, faultAt, ifWhole, ifTag, needOf, leaveOf, shiftIn, signed32, moreAt, leftAt, repeat}
+use Rattle.grammar.specs.Cursor.{isOk, headIn, faultAt, pastOf, ifTag, packedIf, taggedOf, needOf, leaveOf, shiftIn, signed32, moreAt, leftAt, repeat}
 
--- where a cursor meets a whole element, it stands inside the message
-module _ (m : List ℕ) (c : Cursor) {tag start len : ℕ} (whole : headAt m c ≡ Whole tag start len) where
-  stands : (c .at ≤ c .end) × (c .end ≤ length m) × (headOf (take (c .end - c .at) (drop (c .at) m)) ≡ Whole tag start len)
-  unfolding headAt
+-- a whole element that stands between two offsets ends inside, and the second lies inside the message
+module _ (m : List ℕ) (at end : ℕ) {tag start len : ℕ} (whole : headIn m at end ≡ Whole tag start len) where
+  stands : (at < end) × (end ≤ length m) × (headOf (take (end - at) (drop at m)) ≡ Whole tag start len)
+  unfolding headIn
   stands =
-      cond-both (λ (h : Head). h ≡ Whole tag start len → (c .at ≤ c .end) × (c .end ≤ length m) × (headOf (take (c .end - c .at) (drop (c .at) m)) ≡ Whole tag start len))
-      (ltb (c .end) (c .at) || ltb (length m) (c .end))
+      cond-both (λ (h : Head). h ≡ Whole tag start len → (at < end) × (end ≤ length m) × (headOf (take (end - at) (drop at m)) ≡ Whole tag start len))
+      (leb end at || ltb (length m) end)
       (λ t q. let z : _≡_ {A = ℕ} 0 1 = cc in absurd (omega arith))
-      (λ t q. (ltb-false _ _ (or-left _ (ltb (length m) (c .end)) t), ltb-false _ _ (or-right (ltb (c .end) (c .at)) _ t), q))
+      (λ t q. (leb-false _ _ (or-left _ (ltb (length m) end) t), ltb-false _ _ (or-right (leb end at) _ t), q))
       whole
 
-  -- it ends where its parent ends or before
-  pub head-at-in : (2 ≤ start) × (c .at + start + len ≤ c .end) × (c .end ≤ length m)
-  head-at-in = let s = stands in let w = span-in m (c .at) (c .end) (s .0) refl (s .2) in (w .0, w .1, s .1)
+  pub head-in-parent : (2 ≤ start) × (at + start + len ≤ end) × (end ≤ length m)
+  head-in-parent = let s = stands in let w = span-in m at end (omega arith) refl (s .2) in (w .0, w .1, s .1)
 
-  -- its tag is the byte where the cursor stands
-  pub head-at-tag : tagAt m c ≡ byte (take (c .end - c .at) (drop (c .at) m)) 0
-  unfolding tagAt
-  head-at-tag =
-      let w = head-at-in in
-      simp (lt-ltb (c .at) (c .end) (omega arith), le-leb (c .end) (length m) (w .2))
-      (sym (getD-take (c .end - c .at) (drop (c .at) m) 0 0 (omega arith) ∙ getD-drop (c .at) m 0 0 ∙ ap (λ (k : ℕ). getD m k 0) (add-zero (c .at))))
+  -- its tag is the byte at the first offset
+  pub head-tag : tag ≡ getD m at 0
+  head-tag =
+      let s = stands in
+      whole-tag _ (s .2) ∙ getD-take (end - at) (drop at m) 0 0 (omega arith) ∙ getD-drop at m 0 0 ∙ ap (λ (k : ℕ). getD m k 0) (add-zero at)
 
--- the number that packs the head where a cursor stands: 0 where it is bad, else where the content is
-pub head-at-bad : (m : List ℕ) (c : Cursor) {p : ℕ} → p ≡ packedOf (headAt m c) → p ≡ 0 → ifWhole c (headAt m c) ≡ faultAt c
-head-at-bad m c e z = go (headAt m c) refl
+-- another byte there: no element with the tag asked
+pub tagged-other : (m : List ℕ) (at end tag : ℕ) → (getD m at 0 ≡ tag → ⊥) → taggedOf m at end tag ≡ 0
+unfolding taggedOf
+tagged-other m at end tag n = go (headIn m at end) refl
   where
-    go : (h : Head) → h ≡ headAt m c → ifWhole c h ≡ faultAt c
+    go : (h : Head) → headIn m at end ≡ h → packedIf tag h ≡ 0
     go (Bad rule) q = refl
-    go (Whole tag start len) q = absurd (omega (arith, head-at-in m c (sym q), e ∙ ap packedOf (sym q)))
+    go (Whole t start len) q = simp (ne-eqb t tag (λ e. n (sym (head-tag m at end q) ∙ e)))
 
-pub head-at-whole : (m : List ℕ) (c : Cursor) {p : ℕ} → p ≡ packedOf (headAt m c) → (p ≡ 0 → ⊥) → headAt m c ≡ Whole (tagAt m c) (p % 8) (p / 8)
-head-at-whole m c {p} e n = go (headAt m c) refl
+-- that byte there: the head as it is packed
+pub tagged-same : (m : List ℕ) (at end tag : ℕ) → getD m at 0 ≡ tag → taggedOf m at end tag ≡ packedOf (headIn m at end)
+unfolding taggedOf
+tagged-same m at end tag e = go (headIn m at end) refl
   where
-    go : (h : Head) → h ≡ headAt m c → headAt m c ≡ Whole (tagAt m c) (p % 8) (p / 8)
-    go (Bad rule) q = absurd (n (e ∙ ap packedOf (sym q)))
-    go (Whole tag start len) q =
-        let s = stands m c (sym q) in
-        let w = packed-whole (take (c .end - c .at) (drop (c .at) m)) (e ∙ ap packedOf (sym q ∙ sym (s .2))) n in
-        sym q ∙ sym (s .2) ∙ w ∙ ap (λ (t : ℕ). Whole t (p % 8) (p / 8)) (sym (head-at-tag m c (sym q)))
-
--- an element has the tag asked exactly where the byte there is that tag
-pub tag-same : (m : List ℕ) (c : Cursor) {tag : ℕ} → tagAt m c ≡ tag → ifTag tag c (headAt m c) ≡ ifWhole c (headAt m c)
-tag-same m c {tag} e = go (headAt m c) refl
-  where
-    go : (h : Head) → h ≡ headAt m c → ifTag tag c h ≡ ifWhole c h
+    go : (h : Head) → headIn m at end ≡ h → packedIf tag h ≡ packedOf h
     go (Bad rule) q = refl
-    go (Whole t start len) q = simp (eq-eqb t tag (whole-tag _ (stands m c (sym q) .2) ∙ sym (head-at-tag m c (sym q)) ∙ e))
+    go (Whole t start len) q = simp (eq-eqb t tag (head-tag m at end q ∙ e))
 
-pub tag-other : (m : List ℕ) (c : Cursor) {tag : ℕ} → (tagAt m c ≡ tag → ⊥) → ifTag tag c (headAt m c) ≡ faultAt c
-tag-other m c {tag} n = go (headAt m c) refl
-  where
-    go : (h : Head) → h ≡ headAt m c → ifTag tag c h ≡ faultAt c
-    go (Bad rule) q = refl
-    go (Whole t start len) q =
-        simp (ne-eqb t tag (λ e. n (head-at-tag m c (sym q) ∙ sym (whole-tag _ (stands m c (sym q) .2)) ∙ e)))
+-- what the number says: 0 that what comes next is at fault, any other where the content of what comes next is
+module _ (m : List ℕ) (tag : ℕ) (c : Cursor) {p : ℕ} (packs : p ≡ taggedOf m (c .at) (c .end) tag) where
+  pub need-bad : p ≡ 0 → ifTag tag c (headIn m (c .at) (c .end)) ≡ faultAt c
+  unfolding taggedOf
+  need-bad z = go (headIn m (c .at) (c .end)) refl
+    where
+      go : (h : Head) → headIn m (c .at) (c .end) ≡ h → ifTag tag c h ≡ faultAt c
+      go (Bad rule) q = refl
+      go (Whole t start len) q =
+          cond-both (λ (r : Cursor). r ≡ faultAt c) (eqb t tag)
+          (λ e. absurd (omega (arith, head-in-parent m (c .at) (c .end) q, sym z ∙ packs ∙ ap (packedIf tag) q ∙ ap (λ (b : Bool). cond b (len * 8 + start) 0) e)))
+          (λ e. refl)
+
+  pub need-whole : (p ≡ 0 → ⊥) → (ifTag tag c (headIn m (c .at) (c .end)) ≡ pastOf c (p % 8) (p / 8)) × (c .at + p % 8 + p / 8 ≤ c .end)
+  unfolding taggedOf
+  need-whole n = go (headIn m (c .at) (c .end)) refl
+    where
+      go : (h : Head) → headIn m (c .at) (c .end) ≡ h → (ifTag tag c h ≡ pastOf c (p % 8) (p / 8)) × (c .at + p % 8 + p / 8 ≤ c .end)
+      go (Bad rule) q = absurd (n (packs ∙ ap (packedIf tag) q))
+      go (Whole t start len) q =
+          cond-both (λ (r : Cursor). (r ≡ pastOf c (p % 8) (p / 8)) × (c .at + p % 8 + p / 8 ≤ c .end)) (eqb t tag)
+          (λ e.
+          let w = head-in-parent m (c .at) (c .end) q in
+          let s = whole-in _ refl (stands m (c .at) (c .end) q .2) in
+          let u = unpacked start len (omega arith) (packs ∙ ap (packedIf tag) q ∙ ap (λ (b : Bool). cond b (len * 8 + start) 0) e) in
+          (rw (u .0, u .1) refl, rw (u .0, u .1) (w .1)))
+          (λ e. absurd (n (packs ∙ ap (packedIf tag) q ∙ ap (λ (b : Bool). cond b (len * 8 + start) 0) e)))
 
 -- one more byte shifted in
 pub shift-more : (s : List ℕ) (i v : ℕ) → i < length s → shiftIn v (drop i s) ≡ shiftIn ((v * 256 + getD s i 0) % 4294967296) (drop (i + 1) s)
@@ -99,17 +108,17 @@ pub record Moved (c r : Cursor) : Type 0 where
 never : {X : Type 0} → false ≡ true → X
 never e = absurd (true≢false (sym e))
 
-moved-past : (m : List ℕ) (tag : ℕ) (c : Cursor) (h : Head) → h ≡ headAt m c → Moved c (ifTag tag c h)
+moved-past : (m : List ℕ) (tag : ℕ) (c : Cursor) (h : Head) → h ≡ headIn m (c .at) (c .end) → Moved c (ifTag tag c h)
 moved-past m tag c (Bad rule) e = record { end = never; on = never }
 moved-past m tag c (Whole t start len) e =
     cond-both (Moved c) (eqb t tag)
-    (λ q. record { end = λ k. refl; on = λ k. omega (arith, head-at-in m c (sym e)) })
+    (λ q. record { end = λ k. refl; on = λ k. omega (arith, head-in-parent m (c .at) (c .end) (sym e)) })
     (λ q. record { end = never; on = never })
 
 pub moved-need : (m : List ℕ) (tag : ℕ) (c : Cursor) → Moved c (needOf m tag c)
 unfolding needOf
 moved-need m tag c =
-    cond-both (Moved c) (isOk c) (λ q. moved-past m tag c (headAt m c) refl) (λ q. record { end = λ k. never (sym q ∙ k); on = λ k. never (sym q ∙ k) })
+    cond-both (Moved c) (isOk c) (λ q. moved-past m tag c (headIn m (c .at) (c .end)) refl) (λ q. record { end = λ k. never (sym q ∙ k); on = λ k. never (sym q ∙ k) })
 
 pub moved-leave : {c s : Cursor} (i : Cursor) → Moved c s → Moved c (leaveOf s i)
 unfolding leaveOf

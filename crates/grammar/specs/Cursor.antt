@@ -5,7 +5,7 @@ use mathlib.Core.List.{List, [], _∷_}
 use mathlib.Core.Bool.{Bool, true, false, cond, _&&_, _||_}
 use lib.ListN.{length, getD, take, drop}
 use lib.Dec.{ltb, leb, eqb}
-use Rattle.der.specs.Head.{byte, headOf}
+use Rattle.der.specs.Head.{byte, headOf, packedOf}
 use Rattle.der.specs.declared.head.Head.{Head}
 use Rattle.der.specs.declared.head.Head.the-variants.{Bad, Whole}
 use Rattle.grammar.specs.declared.cursor.Cursor.{Cursor}
@@ -14,9 +14,9 @@ use Rattle.grammar.specs.declared.cursor.Cursor.{Cursor}
 abbrev pub isOk : Cursor → Bool
 isOk c = eqb (c .rule) 0
 
--- tag and length of the next element, which must end where its parent ends or before
-unfoldable pub headAt : List ℕ → Cursor → Head
-headAt m c = cond (ltb (c .end) (c .at) || ltb (length m) (c .end)) (Bad 2) (headOf (take (c .end - c .at) (drop (c .at) m)))
+-- tag and length of the element at an offset, whose parent ends at another one
+unfoldable pub headIn : List ℕ → ℕ → ℕ → Head
+headIn m at end = cond (leb end at || ltb (length m) end) (Bad 2) (headOf (take (end - at) (drop at m)))
 
 -- the tag byte of the next element; 0, which is no tag, where nothing is left
 unfoldable pub tagAt : List ℕ → Cursor → ℕ
@@ -35,17 +35,21 @@ abbrev pub ifTag : ℕ → Cursor → Head → Cursor
 ifTag tag c (Bad rule) = faultAt c
 ifTag tag c (Whole t start len) = cond (eqb t tag) (pastOf c start len) (faultAt c)
 
+-- the same as one number, 0 where it is none
+abbrev pub packedIf : ℕ → Head → ℕ
+packedIf tag (Bad rule) = 0
+packedIf tag (Whole t start len) = cond (eqb t tag) (packedOf (Whole t start len)) 0
+
+unfoldable pub taggedOf : List ℕ → ℕ → ℕ → ℕ → ℕ
+taggedOf m at end tag = packedIf tag (headIn m at end)
+
 -- an element with this tag comes next
 unfoldable pub needOf : List ℕ → ℕ → Cursor → Cursor
-needOf m tag c = cond (isOk c) (ifTag tag c (headAt m c)) c
+needOf m tag c = cond (isOk c) (ifTag tag c (headIn m (c .at) (c .end))) c
 
 -- one element comes next, whatever its tag
-abbrev pub ifWhole : Cursor → Head → Cursor
-ifWhole c (Bad rule) = faultAt c
-ifWhole c (Whole t start len) = pastOf c start len
-
 unfoldable pub anyOf : List ℕ → Cursor → Cursor
-anyOf m c = cond (isOk c) (ifWhole c (headAt m c)) c
+anyOf m c = needOf m (tagAt m c) c
 
 -- nothing was read here: no span
 abbrev pub noneOf : Cursor → Cursor

@@ -4,8 +4,7 @@ use der::head;
 ghost use mathlib.Core.Path.{_≡_};
 ghost use Prim.Native.Nat.{_+_, _-_, _^_, _<_};
 ghost use lib.ListN.{take, drop};
-ghost use Rattle.der.specs.Head.{packedOf};
-ghost use Rattle.grammar.specs.Cursor.{ifWhole, headAt, tagAt, faultAt, pastOf, needOf, anyOf, noneOf, maybeOf, restOf, doneOf, enterOf, leaveOf, partOf, contentOf, valueOf, smallOf, moreAt, shiftIn, signed32};
+ghost use Rattle.grammar.specs.Cursor.{taggedOf, tagAt, faultAt, pastOf, needOf, anyOf, noneOf, maybeOf, restOf, doneOf, enterOf, leaveOf, partOf, contentOf, valueOf, smallOf, moreAt, shiftIn, signed32};
 
 // Where the next element is sought and where its parent ends; what the last one held; and the rule that is broken where the
 // cursor stands, 0 while all is right.
@@ -15,21 +14,6 @@ pub struct Cursor {
     pub from: usize,
     pub to: usize,
     pub rule: usize,
-}
-
-// Tag and length of the next element, as `head::packed` gives them.
-fn head_at(m: &[u8], c: Cursor) -> usize
-    ensures { λ r. ⌜ r ≡ packedOf (headAt (now (m .entry)) c) ⌝ }
-{
-    let at = c.at;
-    let end = c.end;
-    if end < at {
-        return 0;
-    }
-    if m.len() < end {
-        return 0;
-    }
-    head::packed(&m[at..end])
 }
 
 // The tag byte of the next element; 0, which is no tag, where nothing is left.
@@ -74,35 +58,41 @@ fn past(c: Cursor, start: usize, len: usize) -> Cursor
     }
 }
 
+// Tag and length of the element between two offsets as `head::packed` gives them; 0 also where its tag is another.
+fn tagged(m: &[u8], at: usize, end: usize, tag: u8) -> usize
+    ensures { λ r. ⌜ r ≡ taggedOf (now (m .entry)) at end tag ⌝ }
+{
+    if end <= at {
+        return 0;
+    }
+    if m.len() < end {
+        return 0;
+    }
+    if m[at] == tag {
+        return head::packed(&m[at..end]);
+    }
+    0
+}
+
 // An element with this tag comes next.
 pub(crate) fn need(m: &[u8], c: Cursor, tag: u8) -> Cursor
     ensures { λ r. ⌜ r ≡ needOf (now (m .entry)) tag c ⌝ }
 {
     if c.rule == 0 {
-        let t = tag_at(m, c);
-        if t == tag {
-            return past_head(m, c);
+        let p = tagged(m, c.at, c.end, tag);
+        if p == 0 {
+            return fault_at(c);
         }
-        return fault_at(c);
+        return past(c, p % 8, p / 8);
     }
     c
-}
-
-fn past_head(m: &[u8], c: Cursor) -> Cursor
-    ensures { λ r. ⌜ r ≡ ifWhole c (headAt (now (m .entry)) c) ⌝ }
-{
-    let p = head_at(m, c);
-    if p == 0 {
-        return fault_at(c);
-    }
-    past(c, p % 8, p / 8)
 }
 
 // One element comes next, whatever its tag.
 pub(crate) fn any(m: &[u8], c: Cursor) -> Cursor
     ensures { λ r. ⌜ r ≡ anyOf (now (m .entry)) c ⌝ }
 {
-    if c.rule == 0 { past_head(m, c) } else { c }
+    need(m, c, tag_at(m, c))
 }
 
 // Nothing was read here: no span.

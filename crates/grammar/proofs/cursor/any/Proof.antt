@@ -7,5 +7,5 @@ pub any-spec : {M : Type 1} → statement M
 unfolding anyOf
 any-spec = tie.close (tie.spec
     (λ c κs. search tests)
-    (λ c. search (tests, ← c .past-head .ensures))
-    (λ c. search tests))
+    (λ c κs. search tests)
+    (λ c. search (tests, ← c .need .ensures, ← c .before .tag-at .ensures)))

@@ -1,6 +1,6 @@
-use Rattle.der.proofs.Auto.{tests, told}
-use mathlib.Core.Path.{_∙_}
-use Rattle.grammar.proofs.CursorLaws.{tag-same, tag-other}
+use Rattle.der.proofs.Auto.{tests}
+use native.Mathlib.Omega.{arith}
+use Rattle.grammar.proofs.CursorLaws.{need-bad, need-whole}
 use Rattle.grammar.specs.Cursor.{needOf}
 use Rattle.grammar.proofs.cursor.need.Statement.{statement}
 use Rattle.grammar.proofs.cursor.need.Tie as tie
@@ -10,7 +10,7 @@ unfolding needOf
 need-spec = tie.close (tie.spec
     (λ c κs. search tests)
     (λ c κs. search tests)
-    (λ c. search (tests, c .past-head .ensures, tag-same _ _ (told (c .before .before .tag-at .ensures) (c .before .if2 .taken))))
-    (λ c κs. search tests)
-    (λ c. search (tests, c .fault-at .ensures, tag-other _ _ (λ e. c .before .if2 .left (c .before .before .tag-at .ensures ∙ e))))
+    (λ c. search (tests, c .fault-at .ensures, need-bad _ _ (c .before .before .before .before .before .before .args .c) (c .before .before .tagged .ensures) (c .before .if2 .taken)))
+    (λ c κs. omega (arith, need-whole _ _ (c .before .before .before .before .before .args .c) (c .before .tagged .ensures) (c .if2 .left) .1))
+    (λ c. search (tests, c .past .ensures, need-whole _ _ (c .before .before .before .before .before .before .args .c) (c .before .before .tagged .ensures) (c .before .if2 .left) .0))
     (λ c. search tests))
