@@ -1,24 +1,40 @@
 -- Laws of an OBJECT IDENTIFIER's arcs, for the loop over its bytes.
-use Prim.Native.Nat.{ℕ, _+_, _<_, _≤_}
-use mathlib.Core.Path.{_≡_}
+use Prim.Native.Nat.{ℕ, _+_, _-_, _<_, _≤_}
+use mathlib.Core.Path.{_≡_, _∙_, refl, sym}
+use native.Mathlib.Nat.{add-sub-cancel, le-of-eq}
+use native.Mathlib.Omega.{arith}
+use borrow.Author.Tests.{ne-eqb}
 use mathlib.Core.List.{List}
 use mathlib.Core.Bool.{Bool, true, false, not, _&&_}
 use native.Mathlib.Numerals.{add-one}
 use lib.ListN.{length, getD, drop, drop-of-length-le}
 use lib.Seq.{drop-cons}
 use lib.Dec.{ltb, eqb}
-use Rattle.der.specs.Content.{arcsOk}
+use Rattle.der.specs.Content.{arcsOk, begins}
 
--- an arc's byte that may stand where it does: the rest decides
-pub arc-more : (c : List ℕ) (i : ℕ) (fresh : Bool) → i < length c → not (fresh && eqb (getD c i 0) 128) ≡ true → arcsOk fresh (drop i c) ≡ arcsOk (ltb (getD c i 0) 128) (drop (i + 1) c)
-unfolding arcsOk
-arc-more c i fresh h e = rw (add-one, drop-cons c i 0 h, e)
+-- after a byte another arc begins or it goes on
+begins-next : (c : List ℕ) (i : ℕ) → begins c (i + 1) ≡ ltb (getD c i 0) 128
+unfolding begins
+begins-next c i = simp (ne-eqb (i + 1) 0 (λ e. omega arith), add-sub-cancel i 1)
 
--- an arc that begins 80
-pub arc-bad : (c : List ℕ) (i : ℕ) (fresh : Bool) → i < length c → not (fresh && eqb (getD c i 0) 128) ≡ false → arcsOk fresh (drop i c) ≡ false
-unfolding arcsOk
-arc-bad c i fresh h e = rw (drop-cons c i 0 h, e)
+-- where the loop is at i, and the bytes passed are right
+module _ (c : List ℕ) (i : ℕ) (here : i < length c) (so-far : arcsOk true c ≡ arcsOk (begins c i) (drop i c)) where
+  -- no arc begins here with 80: the rest decides
+  pub arc-more : (begins c i && eqb (getD c i 0) 128) ≡ false → arcsOk true c ≡ arcsOk (begins c (i + 1)) (drop (i + 1) c)
+  unfolding arcsOk
+  arc-more e = so-far ∙ rw (begins-next, add-one, drop-cons c i 0 here, e)
 
-pub arc-end : (c : List ℕ) (i : ℕ) (fresh : Bool) → length c ≤ i → arcsOk fresh (drop i c) ≡ fresh
-unfolding arcsOk
-arc-end c i fresh h = rw (drop-of-length-le c h)
+  -- one does
+  pub arc-bad : (begins c i && eqb (getD c i 0) 128) ≡ true → arcsOk true c ≡ false
+  unfolding arcsOk
+  arc-bad e = so-far ∙ rw (drop-cons c i 0 here, e)
+
+pub arc-start : (c : List ℕ) → arcsOk true c ≡ arcsOk (begins c 0) (drop 0 c)
+unfolding begins
+arc-start c = refl
+
+-- at the end an arc would begin, so that the last is whole
+pub arc-end : (c : List ℕ) (i : ℕ) → i ≡ length c → 0 < i → arcsOk true c ≡ arcsOk (begins c i) (drop i c) → arcsOk true c ≡ ltb (getD c (length c - 1) 0) 128
+unfolding arcsOk begins
+arc-end c i e h so-far =
+    so-far ∙ rw (drop-of-length-le c (le-of-eq (sym e))) (rw (ne-eqb i 0 (λ z. omega arith), e) refl)

@@ -29,6 +29,10 @@ unfoldable pub arcsOk : Bool → List ℕ → Bool
 arcsOk fresh [] = fresh
 arcsOk fresh (x ∷ c) = not (fresh && eqb x 128) && arcsOk (ltb x 128) c
 
+-- the same of one byte: an arc begins at the first byte, and after each byte below 80
+unfoldable pub begins : List ℕ → ℕ → Bool
+begins c i = cond (eqb i 0) true (ltb (byte c (i - 1)) 128)
+
 -- OBJECT IDENTIFIER: at least one byte, no arc beginning 80, last byte below 80 (X.690 8.19.2)
 unfoldable pub oidOk : List ℕ → Bool
 oidOk c = not (eqb (length c) 0) && arcsOk true c

@@ -1,6 +1,11 @@
 // The content rules of primitive elements: point 4 of document 01, "DER as we take it".
 ghost use mathlib.Core.Path.{_≡_};
-ghost use Rattle.der.specs.Content.{booleanOk, integerOk, bitStringOk, oidOk, contentOk};
+ghost use mathlib.Core.Bool.{_&&_};
+ghost use Prim.Native.Nat.{_<_};
+ghost use lib.ListN.{length};
+ghost use lib.Dec.{eqb};
+ghost use Rattle.der.specs.Head.{byte};
+ghost use Rattle.der.specs.Content.{booleanOk, integerOk, bitStringOk, begins, oidOk, contentOk};
 
 fn boolean_ok(c: &[u8]) -> bool
     ensures { λ r. ⌜ r ≡ booleanOk (now (c .entry)) ⌝ }
@@ -59,23 +64,44 @@ fn bit_string_ok(c: &[u8]) -> bool
     last % (1 << u) == 0
 }
 
+// Whether an arc begins at byte i.
+fn begins(c: &[u8], i: usize) -> bool
+    requires { ⌜ i < length (now c) ⌝ }
+    ensures { λ r. ⌜ r ≡ begins (now (c .entry)) i ⌝ }
+{
+    if i == 0 {
+        return true;
+    }
+    c[i - 1] < 128
+}
+
+// Whether an arc begins at byte i with 80.
+fn padded(c: &[u8], i: usize) -> bool
+    requires { ⌜ i < length (now c) ⌝ }
+    ensures { λ r. ⌜ r ≡ (begins (now (c .entry)) i && eqb (byte (now (c .entry)) i) 128) ⌝ }
+{
+    let x = c[i];
+    if x == 128 {
+        return begins(c, i);
+    }
+    false
+}
+
 fn oid_ok(c: &[u8]) -> bool
     ensures { λ r. ⌜ r ≡ oidOk (now (c .entry)) ⌝ }
 {
-    if c.len() == 0 {
+    let n = c.len();
+    if n == 0 {
         return false;
     }
-    let mut fresh = true;
     let mut i = 0;
-    while i < c.len() {
-        let x = c[i];
-        if fresh && x == 128 {
+    while i < n {
+        if padded(c, i) {
             return false;
         }
-        fresh = x < 128;
         i += 1;
     }
-    fresh
+    c[n - 1] < 128
 }
 
 // Whether a primitive element with this tag may have this content.
