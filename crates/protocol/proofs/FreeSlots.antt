@@ -1,0 +1,61 @@
+-- The lowest free slot: where a request's transaction is put.
+use Prim.Native.Nat.{ℕ, zero, suc, _≤_}
+use mathlib.Core.List.{List, [], _∷_}
+use mathlib.Core.Bool.{Bool, true, false, cond}
+use mathlib.Core.Option.{some}
+use mathlib.Core.Path.{_≡_, refl, sym, _∙_, ap}
+use native.Mathlib.Omega.{arith}
+use lib.ListN.{getElem?}
+use Rattle.protocol.specs.declared.Transaction.{Transaction}
+use Rattle.protocol.specs.declared.TransactionState.the-variants as at-registrar
+use Rattle.protocol.specs.Table.{hasRoom, isFree, put, freeSlot}
+use Rattle.protocol.proofs.Tests.{true-false, none-some, some-some}
+use Rattle.protocol.proofs.RegistrarStates.{is-free}
+
+room-at : (r : Transaction) (rs : List Transaction) → (hasRoom rs ≡ true → (p : ℕ) × (x : Transaction) × (getElem? rs p ≡ some x) × (x .state ≡ at-registrar.Free)) → (b : Bool) → isFree (r .state) ≡ b → cond b true (hasRoom rs) ≡ true → (p : ℕ) × (x : Transaction) × (getElem? (r ∷ rs) p ≡ some x) × (x .state ≡ at-registrar.Free)
+room-at r rs ih true q e = (0, r, refl, is-free (r .state) q)
+room-at r rs ih false q e = let g : (p : ℕ) × (x : Transaction) × (getElem? rs p ≡ some x) × (x .state ≡ at-registrar.Free) = ih e in (suc (g .0), g .1, g .2, g .3)
+
+-- where there is room, some slot is free
+pub room-free : (rs : List Transaction) → hasRoom rs ≡ true → (p : ℕ) × (x : Transaction) × (getElem? rs p ≡ some x) × (x .state ≡ at-registrar.Free)
+unfolding hasRoom
+room-free [] e = true-false (sym e)
+room-free (r ∷ rs) e = room-at r rs (λ q. room-free rs q) (isFree (r .state)) refl e
+
+free-room-at : (r : Transaction) (rs : List Transaction) → hasRoom rs ≡ true → (b : Bool) → cond b true (hasRoom rs) ≡ true
+free-room-at r rs h true = refl
+free-room-at r rs h false = h
+
+pub free-room : (rs : List Transaction) (p : ℕ) (x : Transaction) → getElem? rs p ≡ some x → x .state ≡ at-registrar.Free → hasRoom rs ≡ true
+unfolding hasRoom
+free-room [] p x e f = none-some e
+free-room (r ∷ rs) zero x e f = rw (some-some e, f)
+free-room (r ∷ rs) (suc p) x e f = free-room-at r rs (free-room rs p x e f) (isFree (r .state))
+
+put-at : (x r : Transaction) (rs : List Transaction) → (hasRoom rs ≡ true → getElem? (put rs x) (freeSlot rs) ≡ some x) → (b : Bool) → cond b true (hasRoom rs) ≡ true → getElem? (cond b (x ∷ rs) (r ∷ put rs x)) (cond b 0 (suc (freeSlot rs))) ≡ some x
+put-at x r rs ih true h = refl
+put-at x r rs ih false h = ih h
+
+pub put-there : (rs : List Transaction) (x : Transaction) → hasRoom rs ≡ true → getElem? (put rs x) (freeSlot rs) ≡ some x
+unfolding hasRoom put freeSlot
+put-there [] x h = true-false (sym h)
+put-there (r ∷ rs) x h = put-at x r rs (λ q. put-there rs x q) (isFree (r .state)) h
+
+was-free-at : (r : Transaction) (rs : List Transaction) (x : Transaction) → (getElem? rs (freeSlot rs) ≡ some x → x .state ≡ at-registrar.Free) → (b : Bool) → isFree (r .state) ≡ b → getElem? (r ∷ rs) (cond b 0 (suc (freeSlot rs))) ≡ some x → x .state ≡ at-registrar.Free
+was-free-at r rs x ih true q e = is-free (x .state) (ap (λ (y : Transaction). isFree (y .state)) (sym (some-some e)) ∙ q)
+was-free-at r rs x ih false q e = ih e
+
+pub was-free : (rs : List Transaction) (x : Transaction) → getElem? rs (freeSlot rs) ≡ some x → x .state ≡ at-registrar.Free
+unfolding freeSlot
+was-free [] x e = none-some e
+was-free (r ∷ rs) x e = was-free-at r rs x (λ q. was-free rs x q) (isFree (r .state)) refl e
+
+lowest-at : (r : Transaction) (rs : List Transaction) (p : ℕ) → freeSlot rs ≤ p → (b : Bool) → cond b 0 (suc (freeSlot rs)) ≤ suc p
+lowest-at r rs p h true = omega arith
+lowest-at r rs p h false = omega arith
+
+pub lowest-free : (rs : List Transaction) (p : ℕ) (x : Transaction) → getElem? rs p ≡ some x → x .state ≡ at-registrar.Free → freeSlot rs ≤ p
+unfolding freeSlot
+lowest-free [] p x e f = none-some e
+lowest-free (r ∷ rs) zero x e f = rw (some-some e, f) (omega arith)
+lowest-free (r ∷ rs) (suc p) x e f = lowest-at r rs p (lowest-free rs p x e f) (isFree (r .state))

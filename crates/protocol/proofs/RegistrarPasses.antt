@@ -1,0 +1,127 @@
+-- What a message at the registrar shows that no row refuses: a confirmation of the transaction r, or a request.
+use Prim.Native.Nat.{ℕ}
+use mathlib.Core.List.{List}
+use mathlib.Core.Bool.{true, false, not, _&&_, _||_}
+use mathlib.Core.Option.{Option, none, some}
+use mathlib.Core.Path.{_≡_, sym, _∙_, ap}
+use mathlib.Core.Logic.{_⊎_, inl, inr}
+use lib.Dec.{eqb}
+use Rattle.protocol.specs.declared.Verdict.{Verdict}
+use Rattle.protocol.specs.declared.Transaction.{Transaction}
+use Rattle.protocol.specs.Bytes.{isNonce, sameHash}
+use Rattle.protocol.specs.Message.{Fields, statusOr0, certConf}
+use Rattle.protocol.specs.Table.{hasRoom}
+use Rattle.protocol.specs.States.{hasSent, hasHash, isGranted, settledBy}
+use Rattle.protocol.specs.Refusals.{pass, check, notSixteen}
+use Rattle.protocol.specs.RegistrarRows.{registrarRows, isGood, confirms, opens, names, hasEntries, oneEntry, repeats}
+use Rattle.protocol.proofs.Tests.{passes, one-of, not-false, or-right, and-true-false, true-false, eqb-eq, and-false, isNonce-eq, and-right, or-true, both, hash-eq, and-left, or-left}
+
+-- 7: the verdict is good
+pub passes-7 : (rs : List Transaction) (g : Option Transaction) (v : Verdict) (m : Fields) → check (registrarRows rs g v m) ≡ pass → not (isGood v) ≡ false
+unfolding registrarRows
+passes-7 rs g v m e = passes 7 (registrarRows rs g v m) e
+
+-- ## A confirmation: r is the transaction with its id
+
+module _ (rs : List Transaction) (r : Transaction) (v : Verdict) (m : Fields) (e : check (registrarRows rs (some r) v m) ≡ pass) where
+  abbrev s : ℕ
+  s = statusOr0 (m .status)
+
+  pub version-it : (m .version ≡ 2) ⊎ (m .version ≡ 3)
+  unfolding registrarRows
+  version-it = one-of (m .version) 2 3 (not-false _ (passes 3 (registrarRows rs (some r) v m) e))
+
+  pub id-it : notSixteen (m .id) ≡ false
+  unfolding registrarRows
+  id-it = passes 4 (registrarRows rs (some r) v m) e
+
+  pub sender-it : notSixteen (m .senderNonce) ≡ false
+  unfolding registrarRows
+  sender-it = passes 5 (registrarRows rs (some r) v m) e
+
+  pub protected-it : m .protected ≡ true
+  unfolding registrarRows
+  protected-it = not-false (m .protected) (passes 6 (registrarRows rs (some r) v m) e)
+
+  pub conf : confirms m ≡ true
+  unfolding registrarRows
+  conf =
+      let h10 : (opens m && true) ≡ false = passes 10 (registrarRows rs (some r) v m) e in
+      let h8 : not (opens m || confirms m) ≡ false = passes 8 (registrarRows rs (some r) v m) e in
+      or-right (opens m) (confirms m) (not-false _ h8) (and-true-false (opens m) h10)
+
+  pub kind-is : m .kind ≡ certConf
+  kind-is = eqb-eq (m .kind) certConf conf
+
+  pub names-it : names v (r .board) ≡ true
+  unfolding registrarRows
+  names-it = not-false (names v (r .board)) (and-false (confirms m) (not (names v (r .board))) (passes 13 (registrarRows rs (some r) v m) e) conf)
+
+  sent-and-recip : (hasSent (r .state) && isNonce (m .recipNonce) (r .sent)) ≡ true
+  unfolding registrarRows
+  sent-and-recip =
+      not-false _ (and-false (confirms m) (not (hasSent (r .state) && isNonce (m .recipNonce) (r .sent))) (passes 14 (registrarRows rs (some r) v m) e) conf)
+
+  pub recip-it : m .recipNonce ≡ some (r .sent .bytes)
+  recip-it = isNonce-eq (m .recipNonce) (r .sent) (and-right (hasSent (r .state)) (isNonce (m .recipNonce) (r .sent)) sent-and-recip)
+
+  counted : hasEntries m ≡ true
+  counted = or-true (eqb (m .kind) 0 || eqb (m .kind) 2 || eqb (m .kind) 7) (confirms m) conf
+
+  pub one-it : oneEntry m ≡ true
+  unfolding registrarRows
+  one-it = not-false (oneEntry m) (and-false (hasEntries m) (not (oneEntry m)) (passes 15 (registrarRows rs (some r) v m) e) counted)
+
+  pub request-it : m .request ≡ 0
+  unfolding registrarRows
+  request-it =
+      eqb-eq (m .request) 0
+      (not-false _ (and-false (hasEntries m && oneEntry m) (not (eqb (m .request) 0)) (passes 16 (registrarRows rs (some r) v m) e) (both (hasEntries m) (oneEntry m) counted one-it)))
+
+  conf-one : (confirms m && oneEntry m) ≡ true
+  conf-one = both (confirms m) (oneEntry m) conf one-it
+
+  pub alg-it : m .hashAlg ≡ true → m .version ≡ 3
+  unfolding registrarRows
+  alg-it a =
+      later (and-false (confirms m && oneEntry m && m .hashAlg) (eqb (m .version) 2) (passes 17 (registrarRows rs (some r) v m) e) (both (confirms m && oneEntry m) (m .hashAlg) conf-one a)) version-it
+    where
+      later : eqb (m .version) 2 ≡ false → (m .version ≡ 2) ⊎ (m .version ≡ 3) → m .version ≡ 3
+      later q (inl t) = true-false (sym (ap (λ (k : ℕ). eqb k 2) t) ∙ q)
+      later q (inr t) = t
+
+  pub known-it : (s ≡ 0) ⊎ (s ≡ 2)
+  unfolding registrarRows
+  known-it = one-of s 0 2 (not-false _ (and-false (confirms m && oneEntry m) (not (eqb s 0 || eqb s 2)) (passes 18 (registrarRows rs (some r) v m) e) conf-one))
+
+  pub hash-it : m .hash ≡ r .hash
+  unfolding registrarRows
+  hash-it =
+      hash-eq (m .hash) (r .hash)
+      (and-right (hasHash (r .state)) (sameHash (m .hash) (r .hash))
+      (not-false _ (and-false (confirms m && oneEntry m) (not (hasHash (r .state) && sameHash (m .hash) (r .hash))) (passes 19 (registrarRows rs (some r) v m) e) conf-one)))
+
+  taken-it : (isGranted (r .state) || repeats r m) ≡ true
+  unfolding registrarRows
+  taken-it = not-false _ (and-false (confirms m) (not (isGranted (r .state) || repeats r m)) (passes 20 (registrarRows rs (some r) v m) e) conf)
+
+  pub takes-it : isGranted (r .state) ≡ false → settledBy (r .state) s ≡ true
+  takes-it g = and-left (settledBy (r .state) s) (isNonce (m .senderNonce) (r .taken)) (or-right (isGranted (r .state)) (repeats r m) taken-it g)
+
+  pub same-nonce-it : isGranted (r .state) ≡ false → m .senderNonce ≡ some (r .taken .bytes)
+  same-nonce-it g =
+      isNonce-eq (m .senderNonce) (r .taken) (and-right (settledBy (r .state) s) (isNonce (m .senderNonce) (r .taken)) (or-right (isGranted (r .state)) (repeats r m) taken-it g))
+
+-- ## A request
+
+module _ (rs : List Transaction) (v : Verdict) (m : Fields) (e : check (registrarRows rs none v m) ≡ pass) where
+  pub opens-it : opens m ≡ true
+  unfolding registrarRows
+  opens-it =
+      let h12 : (confirms m && true) ≡ false = passes 12 (registrarRows rs none v m) e in
+      let h8 : not (opens m || confirms m) ≡ false = passes 8 (registrarRows rs none v m) e in
+      or-left (opens m) (confirms m) (not-false _ h8) (and-true-false (confirms m) h12)
+
+  pub room : hasRoom rs ≡ true
+  unfolding registrarRows
+  room = not-false (hasRoom rs) (and-false (opens m) (not (hasRoom rs)) (passes 11 (registrarRows rs none v m) e) opens-it)

@@ -1,0 +1,138 @@
+-- The host steps, the error messages and the corners of the table are as 01 says.
+use Prim.Native.Nat.{ℕ, _<_, _≤_}
+use mathlib.Core.List.{List}
+use mathlib.Core.Bool.{Bool, true, false, not, cond, _&&_}
+use mathlib.Core.Option.{Option, none, some}
+use mathlib.Core.Path.{_≡_, refl, sym, _∙_, ap, subst}
+use native.Mathlib.Omega.{arith}
+use lib.Dec.{leb, leb→le, le→leb}
+use Rattle.message.specs.Read.{readingOf}
+use Rattle.message.specs.declared.Reading.the-variants as read
+use Rattle.grammar.specs.declared.Message.{Message}
+use Rattle.message.specs.declared.Fault.{Fault}
+use Rattle.protocol.specs.declared.TransactionId.{TransactionId}
+use Rattle.protocol.specs.declared.Nonce.{Nonce}
+use Rattle.protocol.specs.declared.RegistrarInput.{RegistrarInput}
+use Rattle.protocol.specs.declared.EndEntityInput.{EndEntityInput}
+use Rattle.protocol.specs.declared.TransactionState.{TransactionState}
+use Rattle.protocol.specs.declared.Transaction.{Transaction}
+use Rattle.protocol.specs.declared.TransactionTable.{TransactionTable}
+use Rattle.protocol.specs.declared.Enrolment.{Enrolment}
+use Rattle.protocol.specs.declared.FailureInfo.{FailureInfo}
+use Rattle.protocol.specs.declared.Outgoing.{Outgoing}
+use Rattle.protocol.specs.declared.RegistrarAnswer.{RegistrarAnswer}
+use Rattle.protocol.specs.declared.TransactionState.the-variants as at-registrar
+use Rattle.protocol.specs.declared.Outcome.the-variants as outcome
+use Rattle.protocol.specs.Bytes.{asId, asNonce}
+use Rattle.protocol.specs.Message.{Fields, fieldsOf}
+use Rattle.protocol.specs.Outgoing.{errorOut, silent}
+use Rattle.protocol.specs.Table.{lookup}
+use Rattle.protocol.specs.States.{isAsked, isGranted, mayClose, hasSent}
+use Rattle.protocol.specs.Refusals.{bitOf, check, Check, stop, pass, readRefusal}
+use Rattle.protocol.specs.RegistrarRows.{registrarRows, confirms, oneEntry}
+use Rattle.protocol.specs.Registrar.{hostStep, registrarIssue, registrarRefuse, registrarLapse, registrarClose, registrarChecked, registrarMessage, registrarFields, registrarRead}
+use Rattle.protocol.specs.EndEntity.{endEntityMessage, endEntityRead}
+use Rattle.protocol.specs.HostRules.{refusal, HostRule, HostRules}
+use Rattle.protocol.specs.MessageRules.{errorMessage, ErrorRule, UnreadRule, Corners, Tables}
+use Rattle.protocol.proofs.Tests.{none-some, some-some, true-false, T→true, true→T, cases, other-than}
+use Rattle.protocol.proofs.RegistrarStates.{not-asked, not-granted, MayClose, may-close, not-close}
+use Rattle.protocol.proofs.RegistrarPromises.{refused-bit, refused-number, done-refused, again-refused}
+use Rattle.protocol.proofs.ConfirmationMoves.{message-at}
+
+-- ## Host steps
+
+module _ (t : TransactionTable) (i : TransactionId) (Allowed : TransactionState → Type 0) (ok : TransactionState → Bool) (yes-it : (s : TransactionState) → Allowed s → ok s ≡ true) (no-it : (s : TransactionState) → (Allowed s → ⊥) → ok s ≡ false) (next : Transaction → RegistrarAnswer) where
+  unknown-at : (f : Option Transaction) → f ≡ none → hostStep f t (λ r. ok (r .state)) next ≡ refusal 30 t
+  unfolding bitOf
+  unknown-at none e = refl
+  unknown-at (some r) e = none-some (sym e)
+
+  done-at : (f : Option Transaction) (r : Transaction) → f ≡ some r → Allowed (r .state) → hostStep f t (λ r. ok (r .state)) next ≡ next r
+  done-at none r e a = none-some e
+  done-at (some s) r e a = rw (some-some e, yes-it (r .state) a)
+
+  else-at : (f : Option Transaction) (r : Transaction) → f ≡ some r → (Allowed (r .state) → ⊥) → hostStep f t (λ r. ok (r .state)) next ≡ refusal 31 t
+  unfolding bitOf
+  else-at none r e a = none-some e
+  else-at (some s) r e a = rw (some-some e, no-it (r .state) a)
+
+  host-rule : HostRule t i Allowed next (hostStep (lookup (t .transactions) i) t (λ r. ok (r .state)) next)
+  host-rule = record { unknown = unknown-at (lookup (t .transactions) i); done = λ r. done-at (lookup (t .transactions) i) r; else = λ r. else-at (lookup (t .transactions) i) r }
+
+pub host-rules : (t : TransactionTable) (i : TransactionId) → HostRules t i
+unfolding registrarIssue registrarRefuse registrarLapse registrarClose
+host-rules t i =
+    record {
+      issue = λ n h. host-rule t i (λ s. s ≡ at-registrar.Asked) isAsked (λ s e. rw e) not-asked _;
+      refuse = λ n. host-rule t i (λ s. s ≡ at-registrar.Asked) isAsked (λ s e. rw e) not-asked _;
+      lapse = host-rule t i (λ s. s ≡ at-registrar.Granted) isGranted (λ s e. rw e) not-granted _;
+      close = host-rule t i MayClose mayClose may-close not-close _;
+    }
+
+-- ## What a refused message sends
+
+sends-at : (k : ℕ) (i : TransactionId) (n a : Nonce) (c : FailureInfo) (t : Bool) → leb 6 k ≡ t → (j : ℕ) (b : FailureInfo) → outcome.Refused k c ≡ outcome.Refused j b → 6 ≤ j → (t ≡ true) × (cond t (errorOut i n a c) silent ≡ errorMessage i n a b)
+sends-at k i n a c true h j b e l = (refl, ap (errorMessage i n a) (refused-bit k j c b e))
+sends-at k i n a c false h j b e l = true-false (sym (T→true (leb 6 k) (le→leb 6 k (subst (λ (z : ℕ). 6 ≤ z) (sym (refused-number k j c b e)) l))) ∙ h)
+
+below-at : (k : ℕ) (t : Bool) → leb 6 k ≡ t → k < 6 → t ≡ false
+below-at k true h l = let z : 6 ≤ k = leb→le 6 k (true→T (leb 6 k) h) in absurd (omega arith)
+below-at k false h l = refl
+
+module _ (t : TransactionTable) (d : RegistrarInput) (m : Fields) where
+  abbrev Rule : RegistrarAnswer → Type 0
+  Rule = ErrorRule (asId (m .id)) (d .nonce) (asNonce (m .senderNonce))
+
+  not-refused : (p : ℕ) (s : Bool) (o : Outgoing) (u : TransactionTable) → Rule (record { outcome = outcome.Done; slot = record { 0 = p }; sends = s; outgoing = o; table = u })
+  not-refused p s o u = record { from6 = λ k b e. done-refused k b e; below6 = λ k b e. done-refused k b e }
+
+  error-checked : (f : Option Transaction) (c : Check) → Rule (registrarChecked c f t d m)
+  unfolding registrarChecked
+  error-checked f (stop k) =
+      record {
+        from6 = λ j b e l. sends-at k _ _ _ _ (leb 6 k) refl j b e l;
+        below6 = λ j b e l. below-at k (leb 6 k) refl (subst (λ (z : ℕ). z < 6) (sym (refused-number k j _ b e)) l);
+      }
+  error-checked none pass = not-refused _ _ _ _
+  error-checked (some r) pass = cases Rule (isGranted (r .state)) _ _ (λ _. not-refused _ _ _ _) (λ _. record { from6 = λ k b e. again-refused k b e; below6 = λ k b e. again-refused k b e })
+
+-- a message that reads
+pub error-rule : (t : TransactionTable) (d : RegistrarInput) (bytes : List ℕ) (m : Message) → readingOf bytes ≡ read.Clean m → ErrorRule (asId (fieldsOf bytes m .id)) (d .nonce) (asNonce (fieldsOf bytes m .senderNonce)) (registrarMessage t d bytes)
+unfolding registrarFields
+error-rule t d bytes m e = rw (message-at t d bytes m e) (error-checked t d (fieldsOf bytes m) (lookup (t .transactions) (asId (fieldsOf bytes m .id))) (check (registrarRows (t .transactions) (lookup (t .transactions) (asId (fieldsOf bytes m .id))) (d .verdict) (fieldsOf bytes m))))
+
+-- one that does not read sends nothing
+pub unread-silent : (t : TransactionTable) (d : RegistrarInput) (bytes : List ℕ) (f : Fault) → readingOf bytes ≡ read.Refused f → registrarMessage t d bytes .sends ≡ false
+unfolding registrarMessage registrarRead
+unread-silent t d bytes f e = rw e
+
+unread-at : (f : Fault) → UnreadRule f (outcome.Refused (readRefusal f) (bitOf (readRefusal f) false))
+unfolding bitOf
+unread-at f = record { one = λ e. rw e; two = λ d. rw (other-than (f .number) 1 d _ refl) }
+
+pub registrar-unread : (t : TransactionTable) (d : RegistrarInput) (bytes : List ℕ) (f : Fault) → readingOf bytes ≡ read.Refused f → UnreadRule f (registrarMessage t d bytes .outcome)
+unfolding registrarMessage registrarRead
+registrar-unread t d bytes f e = rw e (unread-at f)
+
+pub end-entity-unread : (x : Enrolment) (d : EndEntityInput) (bytes : List ℕ) (f : Fault) → readingOf bytes ≡ read.Refused f → UnreadRule f (endEntityMessage x d bytes .outcome)
+unfolding endEntityMessage endEntityRead
+end-entity-unread x d bytes f e = rw e (unread-at f)
+
+-- ## Corners
+
+pub corners : (r : Transaction) (m : Fields) → confirms m ≡ true → oneEntry m ≡ true → Corners r m
+corners r m c o =
+    record {
+      asked14 = λ e. rw (c, e);
+      absent14 = λ e. rw (c, e) (ap not (and-none (hasSent (r .state))));
+      refused19 = λ e. rw (c, o, e);
+      lapsed20 = λ e. rw (c, e);
+    }
+  where
+    and-none : (b : Bool) → (b && false) ≡ false
+    and-none true = refl
+    and-none false = refl
+
+pub tables : Tables
+unfolding bitOf
+tables = record { pairing = (refl, refl, refl, refl); bit20 = (refl, refl); noBit = (refl, refl, refl, refl) }

@@ -1,0 +1,80 @@
+-- The registrar's host steps, each with its complete answer: 01's sentences once more, in words of their own.
+use Prim.Native.Nat.{ℕ}
+use mathlib.Core.Bool.{true, false}
+use mathlib.Core.Option.{none, some}
+use mathlib.Core.Path.{_≡_}
+use mathlib.Core.Logic.{_⊎_}
+use lib.ListN.{replicate}
+use Rattle.protocol.specs.declared.TransactionId.{TransactionId}
+use Rattle.protocol.specs.declared.Nonce.{Nonce}
+use Rattle.protocol.specs.declared.Hash.{Hash}
+use Rattle.protocol.specs.declared.TransactionState.{TransactionState}
+use Rattle.protocol.specs.declared.Transaction.{Transaction}
+use Rattle.protocol.specs.declared.TransactionTable.{TransactionTable}
+use Rattle.protocol.specs.declared.Outgoing.{Outgoing}
+use Rattle.protocol.specs.declared.RegistrarAnswer.{RegistrarAnswer}
+use Rattle.protocol.specs.declared.FailureInfo.the-variants.{NoBit}
+use Rattle.protocol.specs.declared.Outcome.the-variants as outcome
+use Rattle.protocol.specs.declared.TransactionState.the-variants.{Free, Asked, Granted, Confirmed, Declined, Refused, Lapsed}
+use Rattle.protocol.specs.Message.{responseTo}
+use Rattle.protocol.specs.Outgoing.{silent}
+use Rattle.protocol.specs.Table.{lookup, slotOf, replace}
+use Rattle.protocol.specs.Registrar.{registrarIssue, registrarRefuse, registrarLapse, registrarClose}
+
+-- refused by this number, with no bit and nothing to send, and the table as it was
+abbrev pub refusal : ℕ → TransactionTable → RegistrarAnswer
+refusal n t = record { outcome = outcome.Refused n NoBit; slot = record { 0 = 0 }; sends = false; outgoing = silent; table = t }
+
+-- a host step for the id: 30 "id not in the book", 31 "state doesn't allow it", else this
+pub record HostRule (t : TransactionTable) (i : TransactionId) (Allowed : TransactionState → Type 0) (next : Transaction → RegistrarAnswer) (a : RegistrarAnswer) : Type 0 where
+  pub unknown : lookup (t .transactions) i ≡ none → a ≡ refusal 30 t
+  pub done : (r : Transaction) → lookup (t .transactions) i ≡ some r → Allowed (r .state) → a ≡ next r
+  pub else : (r : Transaction) → lookup (t .transactions) i ≡ some r → (Allowed (r .state) → ⊥) → a ≡ refusal 31 t
+
+-- ip, cp or kup: the id, the fresh nonce, as recipNonce the last board nonce taken, and the status
+abbrev pub response : ℕ → TransactionId → Nonce → Nonce → ℕ → Outgoing
+response k i n a s =
+    record {
+      kind = k;
+      id = i;
+      «sender_nonce» = n;
+      «has_recip_nonce» = true;
+      «recip_nonce» = a;
+      «has_status» = true;
+      status = s;
+      hash = record { bytes = replicate 32 0 };
+      failure = NoBit;
+    }
+
+-- the transaction of this id becomes x, and this is sent
+abbrev pub answering : TransactionTable → TransactionId → Transaction → Outgoing → RegistrarAnswer
+answering t i x o =
+    record { outcome = outcome.Done; slot = record { 0 = slotOf (t .transactions) i }; sends = true; outgoing = o; table = record { transactions = replace (t .transactions) i x } }
+
+-- the transaction of this id becomes x, and nothing is sent
+abbrev pub quietly : TransactionTable → TransactionId → Transaction → RegistrarAnswer
+quietly t i x =
+    record { outcome = outcome.Done; slot = record { 0 = slotOf (t .transactions) i }; sends = false; outgoing = silent; table = record { transactions = replace (t .transactions) i x } }
+
+-- a transaction of all zeros
+abbrev pub nothing : Transaction
+nothing =
+    record {
+      id = record { bytes = replicate 16 0 };
+      board = record { 0 = 0 };
+      kind = 0;
+      taken = record { bytes = replicate 16 0 };
+      sent = record { bytes = replicate 16 0 };
+      hash = record { bytes = replicate 32 0 };
+      state = Free;
+    }
+
+pub record HostRules (t : TransactionTable) (i : TransactionId) : Type 0 where
+  -- "issue, Asked to Granted, with hash and nonce, order ip, cp or kup [...] with status 0;"
+  pub issue : (n : Nonce) (h : Hash) → HostRule t i (λ s. s ≡ Asked) (λ r. answering t i (record { id = r .id; board = r .board; kind = r .kind; taken = r .taken; sent = n; hash = h; state = Granted }) (response (responseTo (r .kind)) i n (r .taken) 0)) (registrarIssue t i n h)
+  -- "refuse, Asked to Refused, with nonce, the same order with status 2;"
+  pub refuse : (n : Nonce) → HostRule t i (λ s. s ≡ Asked) (λ r. answering t i (record { id = r .id; board = r .board; kind = r .kind; taken = r .taken; sent = n; hash = r .hash; state = Refused }) (response (responseTo (r .kind)) i n (r .taken) 2)) (registrarRefuse t i n)
+  -- "lapse, Granted to Lapsed;"
+  pub lapse : HostRule t i (λ s. s ≡ Granted) (λ r. quietly t i (record { id = r .id; board = r .board; kind = r .kind; taken = r .taken; sent = r .sent; hash = r .hash; state = Lapsed })) (registrarLapse t i)
+  -- "close, from Confirmed, Declined, Refused or Lapsed to free, as in the empty book."
+  pub close : HostRule t i (λ s. (s ≡ Confirmed) ⊎ (s ≡ Declined) ⊎ (s ≡ Refused) ⊎ (s ≡ Lapsed)) (λ r. quietly t i nothing) (registrarClose t i)

@@ -1,0 +1,91 @@
+-- What the steps look at in a message: the kinds, and the fields that the reader found, taken from the message's bytes.
+use Prim.Native.Nat.{ℕ}
+use mathlib.Core.List.{List}
+use mathlib.Core.Bool.{Bool, true, false, not, cond, _&&_, _||_}
+use mathlib.Core.Option.{Option, none, some}
+use lib.ListN.{take, drop}
+use lib.Dec.{eqb}
+use Rattle.grammar.specs.declared.Span.{Span}
+use Rattle.grammar.specs.declared.Message.{Message}
+use Rattle.protocol.specs.declared.Hash.{Hash}
+
+-- ## Kinds
+
+-- the requests that open an enrolment: ir, cr, p10cr, kur
+abbrev pub isEnrolmentKind : ℕ → Bool
+isEnrolmentKind k = eqb k 0 || eqb k 2 || eqb k 4 || eqb k 7
+
+-- ip, cp, kup
+abbrev pub isResponse : ℕ → Bool
+isResponse k = eqb k 1 || eqb k 3 || eqb k 8
+
+abbrev pub certConf : ℕ
+certConf = 24
+
+abbrev pub pkiConf : ℕ
+pkiConf = 19
+
+abbrev pub errorKind : ℕ
+errorKind = 23
+
+-- the response to a request: "0:1, 2:3, 4:3, 7:8"
+abbrev pub responseTo : ℕ → ℕ
+responseTo k = cond (eqb k 0) 1 (cond (eqb k 7) 8 3)
+
+-- the certReqId of a transaction of this kind (refusal 16)
+abbrev pub requestNumber : ℕ → ℕ
+requestNumber k = 0
+
+-- ## Fields
+
+-- entries counts the entries; the five below it are of the one entry, where there is just one
+pub record Fields : Type 0 where
+  pub kind : ℕ
+  pub version : ℕ
+  pub id : Option (List ℕ)
+  pub senderNonce : Option (List ℕ)
+  pub recipNonce : Option (List ℕ)
+  pub protected : Bool
+  pub entries : ℕ
+  pub request : ℕ
+  pub status : Option ℕ
+  pub hash : Hash
+  pub hashAlg : Bool
+  pub certificate : Bool
+
+-- a span that starts at 0 is absent
+abbrev pub isPresent : Span → Bool
+isPresent s = not (eqb (s .start .0) 0)
+
+-- the part of the message that the span names
+abbrev pub partOf : List ℕ → Span → List ℕ
+partOf bytes s = take (s .len) (drop (s .start .0) bytes)
+
+abbrev pub optionalPart : List ℕ → Span → Option (List ℕ)
+optionalPart bytes s = cond (isPresent s) (some (partOf bytes s)) none
+
+abbrev pub optionalStatus : Bool → ℕ → Option ℕ
+optionalStatus true s = some s
+optionalStatus false s = none
+
+unfoldable pub fieldsOf : List ℕ → Message → Fields
+fieldsOf bytes m =
+    record {
+      kind = m .contents .kind;
+      version = m .fields .version;
+      id = optionalPart bytes (m .fields .«transaction_id»);
+      senderNonce = optionalPart bytes (m .fields .«sender_nonce»);
+      recipNonce = optionalPart bytes (m .fields .«recip_nonce»);
+      protected = isPresent (m .protection) && isPresent (m .fields .«protection_alg»);
+      entries = m .contents .entries;
+      request = m .contents .entry .number;
+      status = optionalStatus (m .contents .entry .«has_status») (m .contents .entry .status);
+      hash = record { bytes = partOf bytes (m .contents .entry .«cert_hash») };
+      hashAlg = isPresent (m .contents .entry .«hash_alg»);
+      certificate = isPresent (m .contents .entry .certificate);
+    }
+
+-- a certConf's status: absent status info counts as 0
+abbrev pub statusOr0 : Option ℕ → ℕ
+statusOr0 none = 0
+statusOr0 (some s) = s

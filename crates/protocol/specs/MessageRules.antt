@@ -1,0 +1,74 @@
+-- What a refused message sends, and the corners of the table that 01 and its list of slips name.
+use Prim.Native.Nat.{ℕ, _<_, _≤_}
+use mathlib.Core.Bool.{true, false}
+use mathlib.Core.Option.{none}
+use mathlib.Core.Path.{_≡_}
+use mathlib.Core.Logic.{_⊎_}
+use lib.ListN.{replicate}
+use Rattle.message.specs.declared.Fault.{Fault}
+use Rattle.protocol.specs.declared.TransactionId.{TransactionId}
+use Rattle.protocol.specs.declared.Nonce.{Nonce}
+use Rattle.protocol.specs.declared.Transaction.{Transaction}
+use Rattle.protocol.specs.declared.FailureInfo.{FailureInfo}
+use Rattle.protocol.specs.declared.Outgoing.{Outgoing}
+use Rattle.protocol.specs.declared.Outcome.{Outcome}
+use Rattle.protocol.specs.declared.RegistrarAnswer.{RegistrarAnswer}
+use Rattle.protocol.specs.declared.FailureInfo.the-variants.{NoBit, Bit}
+use Rattle.protocol.specs.declared.Outcome.the-variants as outcome
+use Rattle.protocol.specs.declared.TransactionState.the-variants.{Asked, Refused, Lapsed}
+use Rattle.protocol.specs.Message.{Fields, responseTo}
+use Rattle.protocol.specs.Refusals.{bitOf}
+use Rattle.protocol.specs.RegistrarRows.{confirmsOtherNonce, otherHash, notTaken}
+
+-- an error message with status 2 and this bit
+abbrev pub errorMessage : TransactionId → Nonce → Nonce → FailureInfo → Outgoing
+errorMessage i n a b =
+    record {
+      kind = 23;
+      id = i;
+      «sender_nonce» = n;
+      «has_recip_nonce» = true;
+      «recip_nonce» = a;
+      «has_status» = true;
+      status = 2;
+      hash = record { bytes = replicate 32 0 };
+      failure = b;
+    }
+
+-- "For numbers 6 up in message steps the desk also issues an error order with status 2 and that bit": i and a are the message's
+-- id and senderNonce, n the fresh nonce
+pub record ErrorRule (i : TransactionId) (n a : Nonce) (answer : RegistrarAnswer) : Type 0 where
+  pub from6 : (k : ℕ) (b : FailureInfo) → answer .outcome ≡ outcome.Refused k b → 6 ≤ k → (answer .sends ≡ true) × (answer .outgoing ≡ errorMessage i n a b)
+  pub below6 : (k : ℕ) (b : FailureInfo) → answer .outcome ≡ outcome.Refused k b → k < 6 → answer .sends ≡ false
+
+-- bytes that do not read are refused by 1 (their length) or 2, both with bit 5
+pub record UnreadRule (f : Fault) (o : Outcome) : Type 0 where
+  pub one : f .number ≡ 1 → o ≡ outcome.Refused 1 (Bit 5)
+  pub two : (f .number ≡ 1 → ⊥) → o ≡ outcome.Refused 2 (Bit 5)
+
+-- 8 at the registrar: a message that is neither a request (0, 2, 4, 7) nor a certConf (24) is refused
+abbrev pub OtherKind : ℕ → Type 0
+OtherKind k = (k ≡ 24 → ⊥) × ((k ≡ 0) ⊎ (k ≡ 2) ⊎ (k ≡ 4) ⊎ (k ≡ 7) → ⊥)
+
+abbrev pub IsRefused : Outcome → Type 0
+IsRefused o = (n : ℕ) × (b : FailureInfo) × (o ≡ outcome.Refused n b)
+
+-- a certConf with one entry, for the transaction r
+pub record Corners (r : Transaction) (m : Fields) : Type 0 where
+  -- 14: "a record that sent none matches nothing", whatever recipNonce it carries
+  pub asked14 : r .state ≡ Asked → confirmsOtherNonce r m ≡ true
+  -- 14: an absent recipNonce is no match in any state
+  pub absent14 : m .recipNonce ≡ none → confirmsOtherNonce r m ≡ true
+  -- 19: at Refused "no hash set", whatever hash it carries
+  pub refused19 : r .state ≡ Refused → otherHash r m ≡ true
+  -- 20: Lapsed takes none
+  pub lapsed20 : r .state ≡ Lapsed → notTaken r m ≡ true
+
+-- the pairing and the bit of 20, as 01 writes them
+pub record Tables : Type 0 where
+  -- "0:1, 2:3, 4:3, 7:8"
+  pub pairing : (responseTo 0 ≡ 1) × (responseTo 2 ≡ 3) × (responseTo 4 ≡ 3) × (responseTo 7 ≡ 8)
+  -- "11 if Confirmed, else 2"
+  pub bit20 : (bitOf 20 true ≡ Bit 11) × (bitOf 20 false ≡ Bit 2)
+  -- "none" is no bit, and not bit 0
+  pub noBit : (bitOf 21 false ≡ NoBit) × (bitOf 30 false ≡ NoBit) × (bitOf 31 false ≡ NoBit) × (bitOf 32 false ≡ NoBit)
