@@ -3,3 +3,4 @@ pub mod HeadLaws
 pub mod ContentLaws
 pub mod ElementLaws
 pub mod OneForm
+pub mod RuleLaws

@@ -1,3 +1,11 @@
 pub mod CursorLaws
 pub mod PartsLaws
 pub mod EntryLaws
+pub mod Places
+pub mod PartPlaces
+pub mod HeaderPlaces
+pub mod EntryPlaces
+pub mod BodyPlaces
+pub mod Found
+pub mod Spans
+pub mod Kept
