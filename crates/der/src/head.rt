@@ -112,7 +112,7 @@ pub fn read(s: &[u8]) -> Head
 }
 
 // The first byte; 0, which is no tag, where there is none.
-pub fn first_byte(s: &[u8]) -> u8
+pub(crate) fn first_byte(s: &[u8]) -> u8
     ensures { λ r. ⌜ r ≡ byte (now (s .entry)) 0 ⌝ }
 {
     if s.len() == 0 {
@@ -122,7 +122,7 @@ pub fn first_byte(s: &[u8]) -> u8
 }
 
 // The rule that a bad head breaks.
-pub fn broken_rule(s: &[u8]) -> u8
+pub(crate) fn broken_rule(s: &[u8]) -> u8
     ensures { λ r. ⌜ r ≡ brokenRule (now (s .entry)) ⌝ }
 {
     if s.len() == 0 {

@@ -140,7 +140,7 @@ impl TransactionTable {
 
     pub const ID_BYTES: usize = 16;
 
-    pub const MESSAGE_BYTES: usize = 16384;
+    pub const MESSAGE_BYTES: usize = message::MAX_MESSAGE;
 
     // The table with every slot free.
     pub fn empty() -> TransactionTable
