@@ -1,12 +1,12 @@
 -- Laws of a run of elements: what stands at the loop's place, and that a fault lies inside the bytes that were checked.
-use Prim.Native.Nat.{ℕ, zero, suc, _+_, _-_, _<_, _≤_}
+use Prim.Native.Nat.{ℕ, zero, suc, _+_, _-_, _/_, _%_, _<_, _≤_}
 use mathlib.Core.Path.{_≡_, refl, sym, _∙_, ap, subst}
 use mathlib.Core.List.{List, [], _∷_}
-use mathlib.Core.Bool.{Bool, true, false, not, _&&_}
-use native.Mathlib.Nat.{lt-irrefl, add-zero, add-assoc, add-sub-cancel-left}
+use mathlib.Core.Bool.{Bool, true, false, not, cond, _&&_, _||_, and-true, and-false}
+use native.Mathlib.Nat.{lt-irrefl, add-zero, add-assoc, add-sub-cancel-left, mod-eq-of-lt, div-eq-of-lt, mod-eq-sub-mod, div-eq-of-lt-le}
 use native.Mathlib.Numerals.{sub-one}
 use native.Mathlib.Omega.{arith}
-use borrow.Author.Tests.{eqb-false, not-true}
+use borrow.Author.Tests.{eqb-false, not-true, eq-eqb, ne-eqb, lt-ltb, le-ltb, lt-leb, le-leb, eqb-true}
 use lib.ListN.{length, take, drop, length-drop, length-take, drop-of-length-le}
 use lib.Seq.{drop-drop, take-all}
 use lib.Dec.{eqb, lit≤, T}
@@ -18,7 +18,7 @@ use Rattle.der.specs.declared.element.Check.{Check}
 use Rattle.der.specs.declared.element.Check.the-variants.{Sound, Fault}
 use Rattle.der.specs.Head.{headOf}
 use Rattle.der.specs.Content.{contentOk}
-use Rattle.der.specs.Element.{constructed, formOk, judge, elementOf, sizeOf, andThen, withContent, run, contentAt, checkAt}
+use Rattle.der.specs.Element.{constructed, formOk, judge, elementOf, sizeOf, andThen, withContent, run, contentAt, checkAt, primitiveOf}
 use Rattle.der.proofs.HeadLaws.{HeadIn, head-in, cond-case, cond-both}
 
 -- an element takes at least two bytes and ends inside; a constructed one has a level left
@@ -154,3 +154,66 @@ content-in (suc d) b s = run-in (contentAt d) (content-in d) d 0 b s
 pub fault-in : (d b : ℕ) (s : List ℕ) {at rule : ℕ} → checkAt d b s ≡ Fault at rule → (b ≤ at) × (at < b + length s)
 unfolding checkAt FaultIn
 fault-in d b s e = subst (FaultIn b (length s)) e (run-in (contentAt d) (content-in d) d 0 b s)
+
+-- ## Universal tags by their ranges
+
+-- two tests of numbers that hold together
+same-test : (a b c d : ℕ) → (a ≡ b → c ≡ d) → (c ≡ d → a ≡ b) → eqb a b ≡ eqb c d
+same-test a b c d f g = go (eqb a b) refl
+  where
+    go : (x : Bool) → eqb a b ≡ x → eqb a b ≡ eqb c d
+    go true q = q ∙ sym (eq-eqb c d (f (eqb-true a b q)))
+    go false q = q ∙ sym (ne-eqb c d (λ e. eqb-false a b q (g e)))
+
+itself : (b : Bool) → cond b true false ≡ b
+itself true = refl
+itself false = refl
+
+turned {ℓ} : {A : Type ℓ} (b : Bool) (x y : A) → cond (cond b false true && true) x y ≡ cond b y x
+turned true x y = refl
+turned false x y = refl
+
+form-low : (t : ℕ) → t < 32 → formOk t ≡ cond (eqb t 16 || eqb t 17) false true
+unfolding formOk
+form-low t h = simp (lt-leb 64 t (omega arith), mod-eq-of-lt h, lt-ltb t 32 h, lt-leb 32 t h)
+
+constructed-low : (t : ℕ) → t < 32 → constructed t ≡ false
+constructed-low t h = simp (div-eq-of-lt h)
+
+low-bits : (t : ℕ) → 32 ≤ t → t < 64 → t % 32 ≡ t - 32
+low-bits t l h = mod-eq-sub-mod l ∙ mod-eq-of-lt (omega arith)
+
+form-mid : (t : ℕ) → 32 ≤ t → t < 64 → formOk t ≡ (eqb t 48 || eqb t 49)
+unfolding formOk
+form-mid t l h =
+    simp (lt-leb 64 t h, low-bits t l h, same-test (t - 32) 16 t 48 (λ e. omega arith) (λ e. omega arith), same-test (t - 32) 17 t 49 (λ e. omega arith) (λ e. omega arith), le-leb 32 t l, le-ltb t 32 l)
+    (itself (eqb t 48 || eqb t 49))
+
+constructed-mid : (t : ℕ) → 32 ≤ t → t < 64 → constructed t ≡ true
+constructed-mid t l h = simp (div-eq-of-lt-le {k = 1} 32 {m = t} (omega arith) (omega arith))
+
+-- where a level is left
+module _ (d : ℕ) (s : List ℕ) (start len : ℕ) (level : d ≡ 0 → ⊥) where
+  pub judge-low : (tag : ℕ) → tag < 32 → judge d s (Whole tag start len) ≡ primitiveOf s tag start len
+  unfolding judge primitiveOf
+  judge-low tag h = simp (form-low tag h, constructed-low tag h, ne-eqb d 0 level) (turned (eqb tag 16 || eqb tag 17) _ _)
+
+  pub judge-mid : (tag : ℕ) → 32 ≤ tag → tag < 64 → judge d s (Whole tag start len) ≡ cond (eqb tag 48 || eqb tag 49) (Constructed start len) (Faulty 3)
+  unfolding judge
+  judge-mid tag l h = simp (form-mid tag l h, constructed-mid tag l h, ne-eqb d 0 level, and-true)
+
+-- with none left
+pub judge-none : (d : ℕ) (s : List ℕ) (tag start len : ℕ) → d ≡ 0 → judge d s (Whole tag start len) ≡ Faulty 3
+unfolding judge
+judge-none d s tag start len e = simp (eq-eqb d 0 e, and-false)
+
+-- the other classes, by the constructed bit; a primitive one is opaque
+module _ (d : ℕ) (s : List ℕ) (tag start len : ℕ) (level : d ≡ 0 → ⊥) (high : 64 ≤ tag) where
+  pub judge-constructed : tag / 32 % 2 ≡ 1 → judge d s (Whole tag start len) ≡ Constructed start len
+  unfolding judge formOk
+  judge-constructed e = simp (le-leb 64 tag high, ne-eqb d 0 level, e)
+
+  pub judge-opaque : (tag / 32 % 2 ≡ 1 → ⊥) → judge d s (Whole tag start len) ≡ Primitive (start + len)
+  unfolding judge formOk contentOk
+  judge-opaque n =
+      simp (le-leb 64 tag high, ne-eqb d 0 level, ne-eqb (tag / 32 % 2) 1 n, ne-eqb tag 1 (λ e. omega arith), ne-eqb tag 2 (λ e. omega arith), ne-eqb tag 3 (λ e. omega arith), ne-eqb tag 5 (λ e. omega arith), ne-eqb tag 6 (λ e. omega arith))

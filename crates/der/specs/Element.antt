@@ -35,6 +35,11 @@ judge d s (Whole tag start len) =
     (cond (contentOk tag (take len (drop start s))) (Primitive (start + len)) (Faulty 4)))
     (Faulty 3)
 
+-- the same of a universal tag below 32 where a level is left
+unfoldable pub primitiveOf : List ℕ → ℕ → ℕ → ℕ → Element
+primitiveOf s tag start len =
+    cond (eqb tag 16 || eqb tag 17) (Faulty 3) (cond (contentOk tag (take len (drop start s))) (Primitive (start + len)) (Faulty 4))
+
 -- the element that s begins with, by itself
 unfoldable pub elementOf : ℕ → List ℕ → Element
 elementOf d s = judge d s (headOf s)

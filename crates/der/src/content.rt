@@ -1,6 +1,6 @@
 // The content rules of primitive elements: point 4 of document 01, "DER as we take it".
 ghost use mathlib.Core.Path.{_≡_};
-ghost use mathlib.Core.Bool.{_&&_};
+ghost use mathlib.Core.Bool.{true, cond, _&&_};
 ghost use Prim.Native.Nat.{_<_};
 ghost use lib.ListN.{length};
 ghost use lib.Dec.{eqb};
@@ -108,20 +108,33 @@ fn oid_ok(c: &[u8]) -> bool
 pub fn content_ok(tag: u8, c: &[u8]) -> bool
     ensures { λ r. ⌜ r ≡ contentOk tag (now (c .entry)) ⌝ }
 {
+    if 6 < tag {
+        return true;
+    }
+    if tag == 6 {
+        return oid_ok(c);
+    }
+    if tag < 3 {
+        return small_ok(tag, c);
+    }
+    if tag == 5 {
+        return c.len() == 0;
+    }
+    if tag == 3 {
+        return bit_string_ok(c);
+    }
+    true
+}
+
+// BOOLEAN and INTEGER.
+fn small_ok(tag: u8, c: &[u8]) -> bool
+    ensures { λ r. ⌜ r ≡ cond (eqb tag 1) (booleanOk (now (c .entry))) (cond (eqb tag 2) (integerOk (now (c .entry))) true) ⌝ }
+{
     if tag == 1 {
         return boolean_ok(c);
     }
     if tag == 2 {
         return integer_ok(c);
-    }
-    if tag == 3 {
-        return bit_string_ok(c);
-    }
-    if tag == 5 {
-        return c.len() == 0;
-    }
-    if tag == 6 {
-        return oid_ok(c);
     }
     true
 }

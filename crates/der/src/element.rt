@@ -3,9 +3,11 @@ use crate::content::content_ok;
 use crate::head;
 use crate::head::Head;
 ghost use mathlib.Core.Path.{_≡_};
+ghost use mathlib.Core.Bool.{cond, _||_};
 ghost use Prim.Native.Nat.{_+_, _^_, _<_, _≤_};
+ghost use lib.Dec.{eqb};
 ghost use lib.ListN.{length, drop};
-ghost use Rattle.der.specs.Element.{formOk, judge, elementOf, checkAt, check, fills, isElement};
+ghost use Rattle.der.specs.Element.{primitiveOf, judge, elementOf, checkAt, check, fills, isElement};
 
 // At most so many elements deep, the message being depth 1.
 pub const MAX_DEPTH: u8 = 16;
@@ -26,41 +28,54 @@ pub enum Check {
     Fault(usize, u8),
 }
 
-fn form_ok(tag: u8) -> bool
-    ensures { λ r. ⌜ r ≡ formOk tag ⌝ }
+// A universal element whose tag is 32 to 63: only SEQUENCE and SET are constructed.
+fn sequence_or_set(tag: u8, start: usize, len: usize) -> Element
+    ensures { λ r. ⌜ r ≡ cond (eqb tag 48 || eqb tag 49) (Element.Constructed start len) (Element.Faulty 3) ⌝ }
 {
-    if 64 <= tag {
-        return true;
+    if tag == 48 {
+        return Element::Constructed(start, len);
     }
-    let low = tag % 32;
-    if low == 16 {
-        return 32 <= tag;
+    if tag == 49 {
+        return Element::Constructed(start, len);
     }
-    if low == 17 {
-        return 32 <= tag;
+    Element::Faulty(3)
+}
+
+// A universal element whose tag is below 32: a primitive one.
+fn primitive(s: &[u8], tag: u8, start: usize, len: usize) -> Element
+    requires { ⌜ start + len ≤ length (now s) ⌝ }
+    ensures { λ r. ⌜ r ≡ primitiveOf (now (s .entry)) tag start len ⌝ }
+{
+    if tag == 16 {
+        return Element::Faulty(3);
     }
-    tag < 32
+    if tag == 17 {
+        return Element::Faulty(3);
+    }
+    let end = start + len;
+    if content_ok(tag, &s[start..end]) {
+        return Element::Primitive(end);
+    }
+    Element::Faulty(4)
 }
 
 fn judge_whole(s: &[u8], depth: u8, tag: u8, start: usize, len: usize) -> Element
     requires { ⌜ start + len ≤ length (now s) ⌝ }
     ensures { λ r. ⌜ r ≡ judge depth (now (s .entry)) (Head.Whole tag start len) ⌝ }
 {
-    if form_ok(tag) {
-        if depth == 0 {
-            return Element::Faulty(3);
-        }
-        if tag / 32 % 2 == 1 {
-            return Element::Constructed(start, len);
-        }
-        let end = start + len;
-        if content_ok(tag, &s[start..end]) {
-            return Element::Primitive(end);
-        }
-        Element::Faulty(4)
-    } else {
-        Element::Faulty(3)
+    if depth == 0 {
+        return Element::Faulty(3);
     }
+    if tag < 32 {
+        return primitive(s, tag, start, len);
+    }
+    if tag < 64 {
+        return sequence_or_set(tag, start, len);
+    }
+    if tag / 32 % 2 == 1 {
+        return Element::Constructed(start, len);
+    }
+    Element::Primitive(start + len)
 }
 
 fn first(s: &[u8], depth: u8) -> Element
