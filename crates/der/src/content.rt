@@ -105,7 +105,7 @@ fn oid_ok(c: &[u8]) -> bool
 }
 
 // Whether a primitive element with this tag may have this content.
-pub fn content_ok(tag: u8, c: &[u8]) -> bool
+pub(crate) fn content_ok(tag: u8, c: &[u8]) -> bool
     ensures { λ r. ⌜ r ≡ contentOk tag (now (c .entry)) ⌝ }
 {
     if 6 < tag {

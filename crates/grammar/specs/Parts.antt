@@ -58,6 +58,23 @@ oneOf m Info c = typedOf m c
 unfoldable pub allOf : List ℕ → Each → Cursor → Cursor
 allOf m what c = repeat (λ k. k) (oneOf m what) (leftAt c) c
 
+-- the same of elements with one tag, and of AlgorithmIdentifier and InfoTypeAndValue
+unfoldable pub allTagged : List ℕ → ℕ → Cursor → Cursor
+allTagged m tag c = repeat (λ k. k) (needOf m tag) (leftAt c) c
+
+unfoldable pub allTyped : List ℕ → Cursor → Cursor
+allTyped m c = repeat (λ k. k) (typedOf m) (leftAt c) c
+
+unfoldable pub sequenceTagged : List ℕ → ℕ → Cursor → Cursor
+sequenceTagged m tag c =
+    let s : Cursor = needOf m 0x30 c in
+    leaveOf s (allTagged m tag (needOf m tag (enterOf s)))
+
+unfoldable pub sequenceTyped : List ℕ → Cursor → Cursor
+sequenceTyped m c =
+    let s : Cursor = needOf m 0x30 c in
+    leaveOf s (allTyped m (typedOf m (enterOf s)))
+
 -- SEQUENCE of one or more
 unfoldable pub sequenceOf : List ℕ → Each → Cursor → Cursor
 sequenceOf m what c =

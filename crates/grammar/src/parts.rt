@@ -17,7 +17,7 @@ use crate::cursor::small;
 use crate::cursor::tag_at;
 use crate::cursor::value;
 ghost use mathlib.Core.Path.{_≡_};
-ghost use Rattle.grammar.specs.Parts.{spanFrom, foundSpan, wholeSpan, outerSpan, foundOf, typedOf, oneOf, allOf, sequenceOf, fieldOf, typedField, anyField, sequenceField, maybeText, lastBitSet, failInfoOf, statusOf, maybeStatus};
+ghost use Rattle.grammar.specs.Parts.{spanFrom, foundSpan, wholeSpan, outerSpan, foundOf, typedOf, allTagged, allTyped, sequenceTagged, sequenceTyped, sequenceOf, fieldOf, typedField, anyField, sequenceField, maybeText, lastBitSet, failInfoOf, statusOf, maybeStatus};
 
 // What a SEQUENCE OF holds.
 pub enum Each {
@@ -94,33 +94,52 @@ fn typed(m: &[u8], c: Cursor) -> Cursor
     leave(s, done(r))
 }
 
-fn one_of(m: &[u8], c: Cursor, what: Each) -> Cursor
-    ensures { λ r. ⌜ r ≡ oneOf (now (m .entry)) what c ⌝ }
-{
-    match what {
-        Each::Text => need(m, c, 0x0C),
-        Each::Certificate => need(m, c, 0x30),
-        Each::Info => typed(m, c),
-    }
-}
-
-fn all_of(m: &[u8], c: Cursor, what: Each) -> Cursor
-    ensures { λ r. ⌜ r ≡ allOf (now (m .entry)) what c ⌝ }
+// Elements with this tag, one after another up to the parent's end.
+fn all_tagged(m: &[u8], c: Cursor, tag: u8) -> Cursor
+    ensures { λ r. ⌜ r ≡ allTagged (now (m .entry)) tag c ⌝ }
 {
     let mut k = c;
     while more(k) {
-        k = one_of(m, k, what);
+        k = need(m, k, tag);
     }
     k
+}
+
+fn all_typed(m: &[u8], c: Cursor) -> Cursor
+    ensures { λ r. ⌜ r ≡ allTyped (now (m .entry)) c ⌝ }
+{
+    let mut k = c;
+    while more(k) {
+        k = typed(m, k);
+    }
+    k
+}
+
+fn sequence_tagged(m: &[u8], c: Cursor, tag: u8) -> Cursor
+    ensures { λ r. ⌜ r ≡ sequenceTagged (now (m .entry)) tag c ⌝ }
+{
+    let s = need(m, c, 0x30);
+    let first = need(m, enter(s), tag);
+    leave(s, all_tagged(m, first, tag))
+}
+
+fn sequence_typed(m: &[u8], c: Cursor) -> Cursor
+    ensures { λ r. ⌜ r ≡ sequenceTyped (now (m .entry)) c ⌝ }
+{
+    let s = need(m, c, 0x30);
+    let first = typed(m, enter(s));
+    leave(s, all_typed(m, first))
 }
 
 // A SEQUENCE of one or more.
 pub(crate) fn sequence_of(m: &[u8], c: Cursor, what: Each) -> Cursor
     ensures { λ r. ⌜ r ≡ sequenceOf (now (m .entry)) what c ⌝ }
 {
-    let s = need(m, c, 0x30);
-    let first = one_of(m, enter(s), what);
-    leave(s, all_of(m, first, what))
+    match what {
+        Each::Text => sequence_tagged(m, c, 0x0C),
+        Each::Certificate => sequence_tagged(m, c, 0x30),
+        Each::Info => sequence_typed(m, c),
+    }
 }
 
 // [n] around one element with the tag `inner`: the span is what that one holds.

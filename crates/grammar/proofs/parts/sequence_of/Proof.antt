@@ -1,14 +1,17 @@
-use Rattle.der.proofs.Auto.{tests}
-use Rattle.grammar.specs.Parts.{sequenceOf}
+use Rattle.der.proofs.Auto.{tests, told}
+use Rattle.grammar.specs.Parts.{sequenceOf, allOf, oneOf, sequenceTagged, sequenceTyped, allTagged, allTyped}
 use Rattle.grammar.proofs.parts.sequence_of.Statement.{statement}
 use Rattle.grammar.proofs.parts.sequence_of.Tie as tie
 
 pub sequence-of-spec : {M : Type 1} → statement M
-unfolding sequenceOf
+unfolding sequenceOf allOf oneOf sequenceTagged sequenceTyped allTagged allTyped
 sequence-of-spec = tie.close (tie.spec
+    (λ c. search tests)
     (λ c κs. search tests)
+    (λ c. search tests)
     (λ c κs. search tests)
+    (λ c. search tests)
     (λ c κs. search tests)
-    (λ c κs. search tests)
-    (λ c κs. search tests)
-    (λ c. search (tests, ← c .leave .ensures, ← c .before .all-of .ensures, ← c .before .before .one-of .ensures, ← c .before .before .before .enter .ensures, ← c .before .before .before .before .need .ensures)))
+    (λ c. search (tests, ← c .sequence-tagged .ensures, c .before .enum-told .given .1))
+    (λ c. search (tests, ← c .sequence-tagged2 .ensures, c .before .enum-told2 .given .1))
+    (λ c. search (tests, ← c .sequence-typed .ensures, c .before .enum-told3 .given .1)))

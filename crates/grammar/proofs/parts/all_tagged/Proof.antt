@@ -1,0 +1,42 @@
+-- The elements passed are read, and those to come decide; each one moves the cursor on.
+use mathlib.Core.Path.{_∙_, sym, subst}
+use Prim.Native.Nat.{_<_}
+use Rattle.der.proofs.Auto.{tests, told}
+use Rattle.grammar.specs.declared.cursor.Cursor.{Cursor}
+use Rattle.grammar.specs.Cursor.{leftAt, needOf}
+use Rattle.grammar.specs.Parts.{allTagged}
+use Rattle.grammar.proofs.CursorLaws.{Left, left-start, left-end, left-less, left-more}
+use Rattle.grammar.proofs.CursorLaws.{moved-need}
+use Rattle.grammar.proofs.parts.all_tagged.Statement.{statement}
+use Rattle.grammar.proofs.parts.all_tagged.Tie as tie
+
+abbrev Inv-loop : tie.InvT-loop
+Inv-loop m tag k₀ k = Left (λ (c : Cursor). c) (needOf m tag) (moved-need m tag) k₀ k
+
+abbrev μ-loop : tie.MeasureT-loop
+μ-loop m tag k₀ k = leftAt k
+
+loop-holds : tie.Need-loop-holds Inv-loop μ-loop
+loop-holds c = left-start (λ (k : Cursor). k) _ (moved-need _ _) _
+
+loop-less : tie.Need-loop-less Inv-loop μ-loop
+loop-less c =
+    let p = c .before .before in
+    subst (λ (k : Cursor). leftAt k < leftAt (p .before .loop .k)) (sym (c .need .ensures))
+    (left-less (λ (k : Cursor). k) _ (moved-need _ _) (p .before .loop .k) (told (p .more .ensures) (c .before .if1 .taken)))
+
+loop-again : tie.Need-loop-again Inv-loop μ-loop
+loop-again c =
+    let p = c .before .before in
+    let a = p .before .before .before .args in
+    subst (Left (λ (k : Cursor). k) (needOf (a .m .now) (a .tag)) (moved-need (a .m .now) (a .tag)) (a .c)) (sym (c .need .ensures))
+    (left-more (λ (k : Cursor). k) _ (moved-need _ _) (a .c) (p .before .loop .k) (p .before .loop .inv) (told (p .more .ensures) (c .before .if1 .taken)))
+
+returns : tie.Need-returns Inv-loop μ-loop
+unfolding allTagged
+returns c =
+    let p = c .before .before in
+    left-end (λ (k : Cursor). k) _ (moved-need _ _) (p .before .before .args .c) (p .loop .k) (p .loop .inv) (told (c .before .more .ensures) (c .if1 .left))
+
+pub all-tagged-spec : {M : Type 1} → statement M
+all-tagged-spec = tie.close (tie.spec Inv-loop μ-loop loop-holds (λ c κs. search tests) (λ c κs. search tests) loop-less loop-again returns)
