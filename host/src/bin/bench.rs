@@ -16,26 +16,21 @@ const ROUNDS: usize = 1_001;
 /// Bytes read in each batch, by as many calls as that takes.
 const BATCH: usize = 400_000;
 
+/// Messages that OpenSSL's client and mock server made: a certConf, an ir and
+/// an ip with a chain of certificates.
+const CORPUS: [&[u8]; 3] = [
+    include_bytes!("../../tests/corpus/sig-ir-req2.der"),
+    include_bytes!("../../tests/corpus/sig-ir-req1.der"),
+    include_bytes!("../../tests/corpus/sig-extra-rsp1.der"),
+];
+
 fn main() {
     println!("median of {ROUNDS} rounds, ns per call and per byte, proved / Rust");
     for size in [1_536, 16_384] {
-        let message = chain_message(size);
-        assert_eq!(compiled::read(&message), independent::read(&message));
-        assert!(independent::read(&message).is_ok());
-        let mut fields = [0; compiled::FIELDS];
-        compare(
-            "read",
-            message.len(),
-            || {
-                black_box(compiled::read_fields(
-                    black_box(&message),
-                    black_box(&mut fields),
-                ));
-            },
-            || {
-                let _ = black_box(rust_read(black_box(&message)));
-            },
-        );
+        compare_reading("read", &chain_message(size));
+    }
+    for message in CORPUS {
+        compare_reading("openssl", message);
     }
     for size in [16 * 1_024, 40 * 1_024] {
         let run = chain_run(size);
@@ -52,6 +47,26 @@ fn main() {
             },
         );
     }
+}
+
+/// Both readers, with every field, on one message that both take.
+fn compare_reading(name: &str, message: &[u8]) {
+    assert_eq!(compiled::read(message), independent::read(message));
+    assert!(independent::read(message).is_ok());
+    let mut fields = [0; compiled::FIELDS];
+    compare(
+        name,
+        message.len(),
+        || {
+            black_box(compiled::read_fields(
+                black_box(message),
+                black_box(&mut fields),
+            ));
+        },
+        || {
+            let _ = black_box(rust_read(black_box(message)));
+        },
+    );
 }
 
 /// Not inlined, as a call of the library cannot be.
