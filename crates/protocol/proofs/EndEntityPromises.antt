@@ -5,6 +5,7 @@ use mathlib.Core.Bool.{Bool, true, false, cond, _||_}
 use mathlib.Core.Path.{_≡_, refl, sym, subst}
 use mathlib.Core.Logic.{_⊎_, inl, inr}
 use lib.Dec.{eqb}
+use Rattle.message.specs.declared.Fault.{Fault}
 use Rattle.message.specs.Read.{readingOf}
 use Rattle.message.specs.declared.Reading.{Reading}
 use Rattle.message.specs.declared.Reading.the-variants as read
@@ -21,7 +22,7 @@ use Rattle.protocol.specs.declared.EnrolmentState.the-variants.{Confirmi
 use Rattle.protocol.specs.Message.{Fields, pkiConf, errorKind, statusOr0, fieldsOf, isEnrolmentKind}
 use Rattle.protocol.specs.Outgoing.{silent, requestOut}
 use Rattle.protocol.specs.States.{isWaiting, isConfirming, broken, assured}
-use Rattle.protocol.specs.Refusals.{check, Row, stop, Check, pass, readRefusal, bitOf}
+use Rattle.protocol.specs.Refusals.{check, Row, stop, Check, pass, readRefusal, bitOf, noFault}
 use Rattle.protocol.specs.EndEntityRows.{endEntityRows}
 use Rattle.protocol.specs.EndEntity.{enrolmentMoved, inState, endEntityTimeOut, enrolmentRefused, afterRefusal, endEntityChecked, endEntityRead, endEntityMessage, startedEnrolment, noEnrolment, endEntityStart}
 use Rattle.protocol.specs.Promises.{OneOf, EndEntityPromise, endEntityNumbers}
@@ -32,8 +33,8 @@ use Rattle.protocol.proofs.Rows.{one-in, numbersOf, applies-number, sto
 use Rattle.protocol.proofs.RegistrarPromises.{refused-number, done-refused}
 
 module _ (x : Enrolment) where
-  refusing : (ns : List ℕ) (k : ℕ) (b : FailureInfo) → OneOf k ns → EndEntityPromise ns x (record { outcome = outcome.Refused k b; sends = false; outgoing = silent; enrolment = x })
-  refusing ns k b i =
+  refusing : (ns : List ℕ) (k : ℕ) (b : FailureInfo) (f : Fault) → OneOf k ns → EndEntityPromise ns x (record { outcome = outcome.Refused k b; fault = f; sends = false; outgoing = silent; enrolment = x })
+  refusing ns k b f i =
       record {
         number = λ n c e. subst (λ (j : ℕ). OneOf j ns) (refused-number k n b c e) i;
         unchanged = λ n c e. refl;
@@ -42,7 +43,7 @@ module _ (x : Enrolment) where
         sends = λ e. true-false (sym e);
       }
 
-  doing : (ns : List ℕ) (y : Enrolment) (s : Bool) (o : Outgoing) → y .id ≡ x .id → y .kind ≡ x .kind → (s ≡ true → o .kind ≡ 24) → EndEntityPromise ns x (record { outcome = outcome.Done; sends = s; outgoing = o; enrolment = y })
+  doing : (ns : List ℕ) (y : Enrolment) (s : Bool) (o : Outgoing) → y .id ≡ x .id → y .kind ≡ x .kind → (s ≡ true → o .kind ≡ 24) → EndEntityPromise ns x (record { outcome = outcome.Done; fault = noFault; sends = s; outgoing = o; enrolment = y })
   doing ns y s o i k q =
       record {
         number = λ n c e. done-refused n c e;
@@ -57,7 +58,7 @@ module _ (x : Enrolment) where
 
   pub time-out-promise : EndEntityPromise (31 ∷ []) x (endEntityTimeOut x)
   unfolding endEntityTimeOut
-  time-out-promise = cases (EndEntityPromise (31 ∷ []) x) (isWaiting (x .state) || isConfirming (x .state)) _ _ (λ _. moving (31 ∷ []) (broken (x .state))) (λ _. refusing (31 ∷ []) 31 _ (inl refl))
+  time-out-promise = cases (EndEntityPromise (31 ∷ []) x) (isWaiting (x .state) || isConfirming (x .state)) _ _ (λ _. moving (31 ∷ []) (broken (x .state))) (λ _. refusing (31 ∷ []) 31 _ _ (inl refl))
 
   -- ## A message
 
@@ -70,7 +71,7 @@ module _ (x : Enrolment) where
 
   refused-after : (k : ℕ) (m : Fields) → OneOf k endEntityNumbers → Kept (enrolmentRefused k (afterRefusal k m x))
   unfolding afterRefusal
-  refused-after k m i = refusing endEntityNumbers k _ i
+  refused-after k m i = refusing endEntityNumbers k _ _ i
 
   checked-promise : (d : EndEntityInput) (m : Fields) (c : Check) → check (endEntityRows x (d .good) m) ≡ c → Kept (endEntityChecked c x d m)
   unfolding endEntityChecked
@@ -87,7 +88,7 @@ module _ (x : Enrolment) where
 
   read-promise : (d : EndEntityInput) (bytes : List ℕ) (r : Reading) → Kept (endEntityRead r x d bytes)
   unfolding endEntityRead
-  read-promise d bytes (read.Refused f) = refusing endEntityNumbers (readRefusal f) _ (read-number (eqb (f .number) 1))
+  read-promise d bytes (read.Refused f) = refusing endEntityNumbers (readRefusal f) _ _ (read-number (eqb (f .number) 1))
   read-promise d bytes (read.Clean m) = checked-promise d (fieldsOf bytes m) (check (endEntityRows x (d .good) (fieldsOf bytes m))) refl
 
   pub message-promise : (d : EndEntityInput) (bytes : List ℕ) → Kept (endEntityMessage x d bytes)
@@ -96,7 +97,7 @@ module _ (x : Enrolment) where
 
 -- ## A start
 
-start-at : (k : ℕ) (i : TransactionId) (n : Nonce) (t : Bool) → (m : ℕ) (b : FailureInfo) → (cond t (record { outcome = outcome.Done; sends = true; outgoing = requestOut k i n; enrolment = startedEnrolment k i n }) (enrolmentRefused 32 noEnrolment)) .outcome ≡ outcome.Refused m b → (m ≡ 32) × (t ≡ false)
+start-at : (k : ℕ) (i : TransactionId) (n : Nonce) (t : Bool) → (m : ℕ) (b : FailureInfo) → (cond t (record { outcome = outcome.Done; fault = noFault; sends = true; outgoing = requestOut k i n; enrolment = startedEnrolment k i n }) (enrolmentRefused 32 noEnrolment)) .outcome ≡ outcome.Refused m b → (m ≡ 32) × (t ≡ false)
 start-at k i n true m b e = done-refused m b e
 start-at k i n false m b e = (sym (refused-number 32 m _ b e), refl)
 

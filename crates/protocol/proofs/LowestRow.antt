@@ -23,7 +23,7 @@ use Rattle.protocol.specs.Message.{Fields, statusOr0, pkiConf, fieldsOf,
 use Rattle.protocol.specs.Outgoing.{pkiConfOut}
 use Rattle.protocol.specs.Table.{lookup, slotOf, replace}
 use Rattle.protocol.specs.States.{isGranted, settledState}
-use Rattle.protocol.specs.Refusals.{Row, stop, check, pass, Check}
+use Rattle.protocol.specs.Refusals.{Row, stop, check, pass, Check, noFault}
 use Rattle.protocol.specs.RegistrarRows.{registrarRows}
 use Rattle.protocol.specs.Registrar.{registrarChecked, doneSending, settled, registrarFields, registrarMessage}
 use Rattle.protocol.specs.EndEntityRows.{endEntityRows}
@@ -64,7 +64,7 @@ module _ (t : TransactionTable) (d : RegistrarInput) (m : Fields) where
   passed-registrar none n b e = done-refused n b e
   passed-registrar (some r) n b e = granted-or (isGranted (r .state)) e
     where
-      granted-or : (q : Bool) → (cond q (doneSending (slotOf (t .transactions) (asId (m .id))) (replace (t .transactions) (asId (m .id)) (settled r (settledState (statusOr0 (m .status))) (asNonce (m .senderNonce)))) (pkiConfOut (asId (m .id)) (d .nonce) (asNonce (m .senderNonce)))) (record { outcome = outcome.Again; slot = record { 0 = slotOf (t .transactions) (asId (m .id)) }; sends = true; outgoing = pkiConfOut (asId (m .id)) (d .nonce) (asNonce (m .senderNonce)); table = t })) .outcome ≡ outcome.Refused n b → ⊥
+      granted-or : (q : Bool) → (cond q (doneSending (slotOf (t .transactions) (asId (m .id))) (replace (t .transactions) (asId (m .id)) (settled r (settledState (statusOr0 (m .status))) (asNonce (m .senderNonce)))) (pkiConfOut (asId (m .id)) (d .nonce) (asNonce (m .senderNonce)))) (record { outcome = outcome.Again; fault = noFault; slot = record { 0 = slotOf (t .transactions) (asId (m .id)) }; sends = true; outgoing = pkiConfOut (asId (m .id)) (d .nonce) (asNonce (m .senderNonce)); table = t })) .outcome ≡ outcome.Refused n b → ⊥
       granted-or true z = done-refused n b z
       granted-or false z = again-refused n b z
 

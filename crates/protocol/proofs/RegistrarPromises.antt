@@ -7,6 +7,7 @@ use mathlib.Core.Path.{_≡_, refl, sym, _∙_, ap, subst}
 use mathlib.Core.Logic.{inl, inr}
 use native.Mathlib.Omega.{arith}
 use lib.Dec.{eqb}
+use Rattle.message.specs.declared.Fault.{Fault}
 use Rattle.message.specs.Read.{readingOf}
 use Rattle.message.specs.declared.Reading.{Reading}
 use Rattle.message.specs.declared.Reading.the-variants as read
@@ -25,7 +26,7 @@ use Rattle.protocol.specs.Bytes.{asId, asNonce}
 use Rattle.protocol.specs.Message.{Fields, statusOr0, fieldsOf}
 use Rattle.protocol.specs.Table.{isFree, freeTransaction, lookup}
 use Rattle.protocol.specs.States.{isAsked, hasHash, isGranted, mayClose, settledState}
-use Rattle.protocol.specs.Refusals.{check, Row, stop, Check, pass, readRefusal}
+use Rattle.protocol.specs.Refusals.{check, Row, stop, Check, pass, readRefusal, noFault}
 use Rattle.protocol.specs.RegistrarRows.{registrarRows}
 use Rattle.protocol.specs.Registrar.{hostStep, refusedQuietly, registrarIssue, responded, registrarRefuse, registrarLapse, settled, registrarClose, openedTransaction, registrarChecked, registrarRead, registrarFields, registrarMessage}
 use Rattle.protocol.specs.Promises.{AtMostOne, OneOf, RegistrarPromise, UnsetZero, hostNumbers, registrarNumbers}
@@ -60,8 +61,8 @@ module _ (ns : List ℕ) (t : TransactionTable) where
   at-most-one p u c o = unique-one (u .transactions) (c .one (one-unique (t .transactions) o))
 
   -- refused: the table is the same
-  refusing : (k : ℕ) (c : FailureInfo) (s : Bool) (o : Outgoing) → OneOf k ns → RegistrarPromise ns t (record { outcome = outcome.Refused k c; slot = record { 0 = 0 }; sends = s; outgoing = o; table = t })
-  refusing k c s o i =
+  refusing : (k : ℕ) (c : FailureInfo) (f : Fault) (s : Bool) (o : Outgoing) → OneOf k ns → RegistrarPromise ns t (record { outcome = outcome.Refused k c; fault = f; slot = record { 0 = 0 }; sends = s; outgoing = o; table = t })
+  refusing k c f s o i =
       record {
         number = λ n b e. subst (λ (j : ℕ). OneOf j ns) (refused-number k n c b e) i;
         unchanged = λ n b e. refl;
@@ -72,7 +73,7 @@ module _ (ns : List ℕ) (t : TransactionTable) where
       }
 
   -- done: the table changes at the slot
-  doing : (p : ℕ) (s : Bool) (o : Outgoing) (u : TransactionTable) → Change t p u → RegistrarPromise ns t (record { outcome = outcome.Done; slot = record { 0 = p }; sends = s; outgoing = o; table = u })
+  doing : (p : ℕ) (s : Bool) (o : Outgoing) (u : TransactionTable) → Change t p u → RegistrarPromise ns t (record { outcome = outcome.Done; fault = noFault; slot = record { 0 = p }; sends = s; outgoing = o; table = u })
   doing p s o u c =
       record {
         number = λ n b e. done-refused n b e;
@@ -83,7 +84,7 @@ module _ (ns : List ℕ) (t : TransactionTable) where
         unset = c .unset;
       }
 
-  repeating : (p : ℕ) (o : Outgoing) → RegistrarPromise ns t (record { outcome = outcome.Again; slot = record { 0 = p }; sends = true; outgoing = o; table = t })
+  repeating : (p : ℕ) (o : Outgoing) → RegistrarPromise ns t (record { outcome = outcome.Again; fault = noFault; slot = record { 0 = p }; sends = true; outgoing = o; table = t })
   repeating p o =
       record {
         number = λ n b e. again-refused n b e;
@@ -116,8 +117,8 @@ module _ (t : TransactionTable) (i : TransactionId) where
   Promise = RegistrarPromise hostNumbers t
 
   host : (ok : Transaction → Bool) (g : Transaction → RegistrarAnswer) (f : Option Transaction) → ((r : Transaction) → f ≡ some r → ok r ≡ true → Promise (g r)) → Promise (hostStep f t ok g)
-  host ok g none s = refusing hostNumbers t 30 _ _ _ (inl refl)
-  host ok g (some r) s = cases Promise (ok r) (g r) (refusedQuietly 31 t) (λ q. s r refl q) (λ _. refusing hostNumbers t 31 _ _ _ (inr (inl refl)))
+  host ok g none s = refusing hostNumbers t 30 _ _ _ _ (inl refl)
+  host ok g (some r) s = cases Promise (ok r) (g r) (refusedQuietly 31 t) (λ q. s r refl q) (λ _. refusing hostNumbers t 31 _ _ _ _ (inr (inl refl)))
 
   own-id : (r : Transaction) → lookup rs i ≡ some r → r .id ≡ i
   own-id r h = isFor-id i r (found rs i r h)
@@ -170,7 +171,7 @@ module _ (t : TransactionTable) (d : RegistrarInput) where
 
   checked-promise : (m : Fields) (f : Option Transaction) → lookup (t .transactions) (asId (m .id)) ≡ f → (c : Check) → check (registrarRows (t .transactions) f (d .verdict) m) ≡ c → Kept (registrarChecked c f t d m)
   unfolding registrarChecked
-  checked-promise m f h (stop k) e = refusing registrarNumbers t k _ _ _ (row-number f m k e)
+  checked-promise m f h (stop k) e = refusing registrarNumbers t k _ _ _ _ (row-number f m k e)
   checked-promise m none h pass e = doing registrarNumbers t _ _ _ _ (putting t (openedTransaction (d .verdict) m) h (opened-unset m))
   checked-promise m (some r) h pass e =
       cases Kept (isGranted (r .state)) _ _
@@ -181,7 +182,7 @@ module _ (t : TransactionTable) (d : RegistrarInput) where
 
   read-promise : (bytes : List ℕ) (r : Reading) → Kept (registrarRead r t d bytes)
   unfolding registrarRead registrarFields
-  read-promise bytes (read.Refused f) = refusing registrarNumbers t (readRefusal f) _ _ _ (read-number (eqb (f .number) 1))
+  read-promise bytes (read.Refused f) = refusing registrarNumbers t (readRefusal f) _ _ _ _ (read-number (eqb (f .number) 1))
   read-promise bytes (read.Clean m) = checked-promise (fieldsOf bytes m) (lookup (t .transactions) (asId (fieldsOf bytes m .id))) refl (check (registrarRows (t .transactions) (lookup (t .transactions) (asId (fieldsOf bytes m .id))) (d .verdict) (fieldsOf bytes m))) refl
 
   pub message-promise : (bytes : List ℕ) → Kept (registrarMessage t d bytes)

@@ -28,7 +28,7 @@ use Rattle.protocol.specs.Message.{Fields, fieldsOf}
 use Rattle.protocol.specs.Outgoing.{errorOut, silent}
 use Rattle.protocol.specs.Table.{lookup}
 use Rattle.protocol.specs.States.{isAsked, isGranted, mayClose, hasSent}
-use Rattle.protocol.specs.Refusals.{bitOf, check, Check, stop, pass, readRefusal}
+use Rattle.protocol.specs.Refusals.{bitOf, check, Check, stop, pass, readRefusal, noFault}
 use Rattle.protocol.specs.RegistrarRows.{registrarRows, confirms, oneEntry}
 use Rattle.protocol.specs.Registrar.{hostStep, registrarIssue, registrarRefuse, registrarLapse, registrarClose, registrarChecked, registrarMessage, registrarFields, registrarRead}
 use Rattle.protocol.specs.EndEntity.{endEntityMessage, endEntityRead}
@@ -83,7 +83,7 @@ module _ (t : TransactionTable) (d : RegistrarInput) (m : Fields) where
   abbrev Rule : RegistrarAnswer → Type 0
   Rule = ErrorRule (asId (m .id)) (d .nonce) (asNonce (m .senderNonce))
 
-  not-refused : (p : ℕ) (s : Bool) (o : Outgoing) (u : TransactionTable) → Rule (record { outcome = outcome.Done; slot = record { 0 = p }; sends = s; outgoing = o; table = u })
+  not-refused : (p : ℕ) (s : Bool) (o : Outgoing) (u : TransactionTable) → Rule (record { outcome = outcome.Done; fault = noFault; slot = record { 0 = p }; sends = s; outgoing = o; table = u })
   not-refused p s o u = record { from6 = λ k b e. done-refused k b e; below6 = λ k b e. done-refused k b e }
 
   error-checked : (f : Option Transaction) (c : Check) → Rule (registrarChecked c f t d m)

@@ -16,6 +16,7 @@ use Rattle.protocol.proofs.RegistrarMessage as at-registrar
 use Rattle.protocol.proofs.EndEntityForms as forms
 use Rattle.protocol.proofs.EndEntitySteps as at-board
 use Rattle.protocol.specs.Message.{isEnrolmentKind}
+use Rattle.protocol.specs.Refusals.{noFault}
 use Rattle.protocol.specs.Outgoing.{requestOut}
 use Rattle.protocol.specs.Registrar.{registrarMessage, registrarIssue, registrarRefuse, registrarLapse, registrarClose}
 use Rattle.protocol.specs.EndEntity.{endEntityStart, endEntityMessage, endEntityTimeOut, startedEnrolment, enrolmentRefused, noEnrolment}
@@ -81,7 +82,7 @@ abbrev did : World → Board → ℕ → TransactionId → Nonce → EndEntityAn
 did w b k i n a = startDid w (Start b k i n) b a (unlessRefused (a .outcome) i)
 
 start-at : (w : World) (b : Board) (k : ℕ) (i : TransactionId) (n : Nonce) → Inv w → (t : Bool) → isEnrolmentKind k ≡ t
-    → (let a : EndEntityAnswer = cond t (record { outcome = Done; sends = true; outgoing = requestOut k i n; enrolment = startedEnrolment k i n }) (enrolmentRefused 32 noEnrolment) in Fair ((did w b k i n a) .past) → Inv (did w b k i n a))
+    → (let a : EndEntityAnswer = cond t (record { outcome = Done; fault = noFault; sends = true; outgoing = requestOut k i n; enrolment = startedEnrolment k i n }) (enrolmentRefused 32 noEnrolment) in Fair ((did w b k i n a) .past) → Inv (did w b k i n a))
 start-at w b k i n v true o f = board-preserves w (Start b k i n) b (some (requestOut k i n)) (some i) (forms.more w v b k i n) v (f .0 .id) (forms.start-step w v b k i n o)
 start-at w b k i n v false o f = board-preserves w (Start b k i n) b none none (w .enrolments) v (f .0 .id) (forms.board-none w v b)
 

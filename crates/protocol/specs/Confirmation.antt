@@ -23,6 +23,7 @@ use Rattle.protocol.specs.declared.Outcome.the-variants as outcome
 use Rattle.protocol.specs.declared.FailureInfo.the-variants.{NoBit}
 use Rattle.protocol.specs.declared.TransactionState.the-variants.{Granted, Confirmed, Declined}
 use Rattle.protocol.specs.declared.Verdict.the-variants.{Good}
+use Rattle.protocol.specs.Refusals.{noFault}
 use Rattle.protocol.specs.Table.{lookup, slotOf, replace}
 use Rattle.protocol.specs.Registrar.{registrarMessage}
 
@@ -102,6 +103,7 @@ abbrev pub movedAnswer : TransactionTable → RegistrarInput → Transaction →
 movedAnswer t d r i n s =
     record {
       outcome = outcome.Done;
+      fault = noFault;
       slot = record { 0 = slotOf (t .transactions) i };
       sends = true;
       outgoing = acknowledgement d i n;
@@ -110,7 +112,7 @@ movedAnswer t d r i n s =
 
 -- "record unchanged, a new pkiconf order"
 abbrev pub repeatedAnswer : TransactionTable → RegistrarInput → TransactionId → Nonce → RegistrarAnswer
-repeatedAnswer t d i n = record { outcome = outcome.Again; slot = record { 0 = slotOf (t .transactions) i }; sends = true; outgoing = acknowledgement d i n; table = t }
+repeatedAnswer t d i n = record { outcome = outcome.Again; fault = noFault; slot = record { 0 = slotOf (t .transactions) i }; sends = true; outgoing = acknowledgement d i n; table = t }
 
 -- "exactly when", with the complete answers; and where it neither moves one nor repeats, the table stays and it is refused
 pub record ConfirmationRule (t : TransactionTable) (d : RegistrarInput) (bytes : List ℕ) (m : Message) : Type 0 where

@@ -4,6 +4,7 @@ use mathlib.Core.List.{List}
 use mathlib.Core.Bool.{Bool, true, false, cond, _||_}
 use lib.Dec.{eqb}
 use Rattle.message.specs.Read.{readingOf}
+use Rattle.message.specs.declared.Fault.{Fault}
 use Rattle.message.specs.declared.Reading.{Reading}
 use Rattle.message.specs.declared.Reading.the-variants as read
 use Rattle.protocol.specs.declared.TransactionId.{TransactionId}
@@ -19,17 +20,21 @@ use Rattle.protocol.specs.Bytes.{noNonce, noHash, noId, asNonce}
 use Rattle.protocol.specs.Message.{isEnrolmentKind, Fields, statusOr0, pkiConf, errorKind, fieldsOf}
 use Rattle.protocol.specs.Outgoing.{silent, requestOut, certConfOut}
 use Rattle.protocol.specs.States.{decided, decision, assured, broken, isWaiting, isConfirming}
-use Rattle.protocol.specs.Refusals.{bitOf, Check, stop, pass, readRefusal, check}
+use Rattle.protocol.specs.Refusals.{bitOf, Check, stop, pass, readRefusal, check, noFault}
 use Rattle.protocol.specs.EndEntityRows.{endEntityRows}
 
 -- ## Answers
 
 -- refused, with nothing to send ("a board never does")
 abbrev pub enrolmentRefused : ℕ → Enrolment → EndEntityAnswer
-enrolmentRefused k x = record { outcome = outcome.Refused k (bitOf k false); sends = false; outgoing = silent; enrolment = x }
+enrolmentRefused k x = record { outcome = outcome.Refused k (bitOf k false); fault = noFault; sends = false; outgoing = silent; enrolment = x }
+
+-- the bytes do not read: the reader's refusal, with its fault
+abbrev pub enrolmentUnread : Fault → Enrolment → EndEntityAnswer
+enrolmentUnread f x = record { outcome = outcome.Refused (readRefusal f) (bitOf (readRefusal f) false); fault = f; sends = false; outgoing = silent; enrolment = x }
 
 abbrev pub enrolmentMoved : Enrolment → EndEntityAnswer
-enrolmentMoved x = record { outcome = outcome.Done; sends = false; outgoing = silent; enrolment = x }
+enrolmentMoved x = record { outcome = outcome.Done; fault = noFault; sends = false; outgoing = silent; enrolment = x }
 
 -- the enrolment in another state
 abbrev pub inState : Enrolment → EnrolmentState → Enrolment
@@ -49,7 +54,7 @@ noEnrolment = record { id = noId; kind = 0; last = noNonce; taken = noNonce; has
 unfoldable pub endEntityStart : ℕ → TransactionId → Nonce → EndEntityAnswer
 endEntityStart k i n =
     cond (isEnrolmentKind k)
-    (record { outcome = outcome.Done; sends = true; outgoing = requestOut k i n; enrolment = startedEnrolment k i n })
+    (record { outcome = outcome.Done; fault = noFault; sends = true; outgoing = requestOut k i n; enrolment = startedEnrolment k i n })
     (enrolmentRefused 32 noEnrolment)
 
 -- ## A message
@@ -65,7 +70,7 @@ confirmedEnrolment x accept h n a = record { id = x .id; kind = x .kind; last = 
 -- "0 or 1 gives, by the host's decision, Confirming or Declining, with the host's hash and a certConf order of status 0 or 2"
 abbrev pub confirming : Enrolment → Bool → Hash → Nonce → Nonce → EndEntityAnswer
 confirming x accept h n a =
-    record { outcome = outcome.Done; sends = true; outgoing = certConfOut (x .id) n a (decision accept) h; enrolment = confirmedEnrolment x accept h n a }
+    record { outcome = outcome.Done; fault = noFault; sends = true; outgoing = certConfOut (x .id) n a (decision accept) h; enrolment = confirmedEnrolment x accept h n a }
 
 -- "Asked with a response: status 2 gives Failed"
 abbrev pub responseTaken : Enrolment → EndEntityInput → Fields → EndEntityAnswer
@@ -80,7 +85,7 @@ endEntityChecked pass x d m =
 
 -- "The reading is taken apart; a refusal ends the step at once"
 unfoldable pub endEntityRead : Reading → Enrolment → EndEntityInput → List ℕ → EndEntityAnswer
-endEntityRead (read.Refused f) x d bytes = enrolmentRefused (readRefusal f) x
+endEntityRead (read.Refused f) x d bytes = enrolmentUnread f x
 endEntityRead (read.Clean m) x d bytes = endEntityChecked (check (endEntityRows x (d .good) (fieldsOf bytes m))) x d (fieldsOf bytes m)
 
 -- A message at an end entity.

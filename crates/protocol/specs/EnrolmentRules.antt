@@ -18,6 +18,7 @@ use Rattle.protocol.specs.declared.EnrolmentState.the-variants.{Asked, C
 use Rattle.protocol.specs.declared.FailureInfo.the-variants.{NoBit}
 use Rattle.protocol.specs.declared.Outcome.the-variants as outcome
 use Rattle.protocol.specs.Message.{responseTo}
+use Rattle.protocol.specs.Refusals.{noFault}
 use Rattle.protocol.specs.Outgoing.{silent}
 use Rattle.protocol.specs.EndEntity.{endEntityMessage, endEntityTimeOut, endEntityStart}
 use Rattle.protocol.specs.Confirmation.{Sixteen}
@@ -63,13 +64,14 @@ pub record Responds (x : Enrolment) (m : Message) (s : ℕ) : Type 0 where
 
 -- done, with nothing to send, and only the state changed
 abbrev pub becomes : Enrolment → EnrolmentState → EndEntityAnswer
-becomes x s = record { outcome = outcome.Done; sends = false; outgoing = silent; enrolment = record { id = x .id; kind = x .kind; last = x .last; taken = x .taken; hash = x .hash; state = s } }
+becomes x s = record { outcome = outcome.Done; fault = noFault; sends = false; outgoing = silent; enrolment = record { id = x .id; kind = x .kind; last = x .last; taken = x .taken; hash = x .hash; state = s } }
 
 -- done, with a certConf of this status for the host's hash, which answers the response's nonce n
 abbrev pub certifies : Enrolment → EndEntityInput → Nonce → EnrolmentState → ℕ → EndEntityAnswer
 certifies x d n s status =
     record {
       outcome = outcome.Done;
+      fault = noFault;
       sends = true;
       outgoing = record { kind = 24; id = x .id; «sender_nonce» = d .nonce; «has_recip_nonce» = true; «recip_nonce» = n; «has_status» = true; status = status; hash = d .hash; failure = NoBit };
       enrolment = record { id = x .id; kind = x .kind; last = d .nonce; taken = n; hash = d .hash; state = s };
@@ -93,7 +95,7 @@ pub record EnrolmentRule (x : Enrolment) (d : EndEntityInput) (bytes : List ℕ)
 pub record TimeOutRule (x : Enrolment) : Type 0 where
   pub failed : x .state ≡ Asked → endEntityTimeOut x ≡ becomes x Failed
   pub unsettled : (x .state ≡ Confirming) ⊎ (x .state ≡ Declining) → endEntityTimeOut x ≡ becomes x Unsettled
-  pub else : (x .state ≡ Sure) ⊎ (x .state ≡ Declined) ⊎ (x .state ≡ Failed) ⊎ (x .state ≡ Unsettled) → endEntityTimeOut x ≡ record { outcome = outcome.Refused 31 NoBit; sends = false; outgoing = silent; enrolment = x }
+  pub else : (x .state ≡ Sure) ⊎ (x .state ≡ Declined) ⊎ (x .state ≡ Failed) ⊎ (x .state ≡ Unsettled) → endEntityTimeOut x ≡ record { outcome = outcome.Refused 31 NoBit; fault = noFault; sends = false; outgoing = silent; enrolment = x }
 
 -- "Start gives Asked", with the request as the message to be sent; 32: "kind not 0, 2, 4 or 7"
 pub record StartRule (k : ℕ) (i : TransactionId) (n : Nonce) : Type 0 where

@@ -17,13 +17,14 @@ use Rattle.protocol.specs.declared.FailureInfo.the-variants.{NoBit}
 use Rattle.protocol.specs.declared.Outcome.the-variants as outcome
 use Rattle.protocol.specs.declared.TransactionState.the-variants.{Free, Asked, Granted, Confirmed, Declined, Refused, Lapsed}
 use Rattle.protocol.specs.Message.{responseTo}
+use Rattle.protocol.specs.Refusals.{noFault}
 use Rattle.protocol.specs.Outgoing.{silent}
 use Rattle.protocol.specs.Table.{lookup, slotOf, replace}
 use Rattle.protocol.specs.Registrar.{registrarIssue, registrarRefuse, registrarLapse, registrarClose}
 
 -- refused by this number, with no bit and nothing to send, and the table as it was
 abbrev pub refusal : ℕ → TransactionTable → RegistrarAnswer
-refusal n t = record { outcome = outcome.Refused n NoBit; slot = record { 0 = 0 }; sends = false; outgoing = silent; table = t }
+refusal n t = record { outcome = outcome.Refused n NoBit; fault = noFault; slot = record { 0 = 0 }; sends = false; outgoing = silent; table = t }
 
 -- a host step for the id: 30 "id not in the book", 31 "state doesn't allow it", else this
 pub record HostRule (t : TransactionTable) (i : TransactionId) (Allowed : TransactionState → Type 0) (next : Transaction → RegistrarAnswer) (a : RegistrarAnswer) : Type 0 where
@@ -49,12 +50,12 @@ response k i n a s =
 -- the transaction of this id becomes x, and this is sent
 abbrev pub answering : TransactionTable → TransactionId → Transaction → Outgoing → RegistrarAnswer
 answering t i x o =
-    record { outcome = outcome.Done; slot = record { 0 = slotOf (t .transactions) i }; sends = true; outgoing = o; table = record { transactions = replace (t .transactions) i x } }
+    record { outcome = outcome.Done; fault = noFault; slot = record { 0 = slotOf (t .transactions) i }; sends = true; outgoing = o; table = record { transactions = replace (t .transactions) i x } }
 
 -- the transaction of this id becomes x, and nothing is sent
 abbrev pub quietly : TransactionTable → TransactionId → Transaction → RegistrarAnswer
 quietly t i x =
-    record { outcome = outcome.Done; slot = record { 0 = slotOf (t .transactions) i }; sends = false; outgoing = silent; table = record { transactions = replace (t .transactions) i x } }
+    record { outcome = outcome.Done; fault = noFault; slot = record { 0 = slotOf (t .transactions) i }; sends = false; outgoing = silent; table = record { transactions = replace (t .transactions) i x } }
 
 -- a transaction of all zeros
 abbrev pub nothing : Transaction

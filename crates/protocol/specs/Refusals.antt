@@ -75,6 +75,10 @@ bitOf n confirmed = bitIn n (bits confirmed)
 
 -- ## The reading, and the rows that both ends share
 
+-- what stands in an answer where the message reads, or there is none
+abbrev pub noFault : Fault
+noFault = record { number = 0; at = record { 0 = 0 }; rule = 0 }
+
 -- 1: "length 0 or above 16,384"; 2: "not DER or not the grammar"
 abbrev pub readRefusal : Fault → ℕ
 readRefusal f = cond (eqb (f .number) 1) 1 2

@@ -5,6 +5,7 @@ use mathlib.Core.Bool.{Bool, true, false, cond}
 use mathlib.Core.Option.{Option, none, some}
 use lib.Dec.{leb}
 use Rattle.message.specs.Read.{readingOf}
+use Rattle.message.specs.declared.Fault.{Fault}
 use Rattle.message.specs.declared.Reading.{Reading}
 use Rattle.message.specs.declared.Reading.the-variants as read
 use Rattle.protocol.specs.declared.Board.{Board}
@@ -26,22 +27,26 @@ use Rattle.protocol.specs.Message.{Fields, statusOr0, fieldsOf, response
 use Rattle.protocol.specs.Outgoing.{silent, errorOut, pkiConfOut, responseOut}
 use Rattle.protocol.specs.Table.{freeSlot, put, slotOf, replace, lookup, freeTransaction}
 use Rattle.protocol.specs.States.{isConfirmed, isGranted, settledState, isAsked, mayClose}
-use Rattle.protocol.specs.Refusals.{bitOf, Check, stop, pass, check, readRefusal}
+use Rattle.protocol.specs.Refusals.{bitOf, Check, stop, pass, check, readRefusal, noFault}
 use Rattle.protocol.specs.RegistrarRows.{registrarRows}
 
 -- ## Answers
 
 -- a refusal with nothing to send: the table as it was
 abbrev pub refusedQuietly : ℕ → TransactionTable → RegistrarAnswer
-refusedQuietly k t = record { outcome = outcome.Refused k (bitOf k false); slot = record { 0 = 0 }; sends = false; outgoing = silent; table = t }
+refusedQuietly k t = record { outcome = outcome.Refused k (bitOf k false); fault = noFault; slot = record { 0 = 0 }; sends = false; outgoing = silent; table = t }
+
+-- the bytes do not read: the reader's refusal, with its fault
+abbrev pub refusedReading : Fault → TransactionTable → RegistrarAnswer
+refusedReading f t = record { outcome = outcome.Refused (readRefusal f) (bitOf (readRefusal f) false); fault = f; slot = record { 0 = 0 }; sends = false; outgoing = silent; table = t }
 
 -- done at this slot, with nothing to send
 abbrev pub doneQuietly : ℕ → List Transaction → RegistrarAnswer
-doneQuietly p rs = record { outcome = outcome.Done; slot = record { 0 = p }; sends = false; outgoing = silent; table = record { transactions = rs } }
+doneQuietly p rs = record { outcome = outcome.Done; fault = noFault; slot = record { 0 = p }; sends = false; outgoing = silent; table = record { transactions = rs } }
 
 -- done at this slot, with this to send
 abbrev pub doneSending : ℕ → List Transaction → Outgoing → RegistrarAnswer
-doneSending p rs o = record { outcome = outcome.Done; slot = record { 0 = p }; sends = true; outgoing = o; table = record { transactions = rs } }
+doneSending p rs o = record { outcome = outcome.Done; fault = noFault; slot = record { 0 = p }; sends = true; outgoing = o; table = record { transactions = rs } }
 
 -- ## A message
 
@@ -58,6 +63,7 @@ abbrev pub refusedMessage : ℕ → Option Transaction → TransactionTable → 
 refusedMessage k f t n m =
     record {
       outcome = outcome.Refused k (bitOf k (confirmedAt f));
+      fault = noFault;
       slot = record { 0 = 0 };
       sends = leb 6 k;
       outgoing = cond (leb 6 k) (errorOut (asId (m .id)) n (asNonce (m .senderNonce)) (bitOf k (confirmedAt f))) silent;
@@ -83,7 +89,7 @@ confirmed t r n m =
     let a : Nonce = asNonce (m .senderNonce) in
     cond (isGranted (r .state))
     (doneSending (slotOf (t .transactions) i) (replace (t .transactions) i (settled r (settledState (statusOr0 (m .status))) a)) (pkiConfOut i n a))
-    (record { outcome = outcome.Again; slot = record { 0 = slotOf (t .transactions) i }; sends = true; outgoing = pkiConfOut i n a; table = t })
+    (record { outcome = outcome.Again; fault = noFault; slot = record { 0 = slotOf (t .transactions) i }; sends = true; outgoing = pkiConfOut i n a; table = t })
 
 unfoldable pub registrarChecked : Check → Option Transaction → TransactionTable → RegistrarInput → Fields → RegistrarAnswer
 registrarChecked (stop k) f t d m = refusedMessage k f t (d .nonce) m
@@ -97,7 +103,7 @@ registrarFields t d m =
 
 -- "The reading is taken apart; a refusal ends the step at once"
 unfoldable pub registrarRead : Reading → TransactionTable → RegistrarInput → List ℕ → RegistrarAnswer
-registrarRead (read.Refused f) t d bytes = refusedQuietly (readRefusal f) t
+registrarRead (read.Refused f) t d bytes = refusedReading f t
 registrarRead (read.Clean m) t d bytes = registrarFields t d (fieldsOf bytes m)
 
 -- A message at the registrar.

@@ -1,4 +1,5 @@
 // The types that the registrar (01's desk) and the end entities (01's board ends) share.
+use message::Fault;
 ghost use mathlib.Core.Path.{_≡_};
 ghost use Rattle.protocol.specs.Bytes.{sameBytes, sameId, sameNonce, sameHash};
 ghost use Rattle.protocol.specs.Table.{emptyTable};
@@ -233,18 +234,22 @@ pub enum Outcome {
     Refused(u8, FailureInfo),
 }
 
-// A registrar call's answer: the slot it was about (0 where it was refused), what is to be sent, and the next table.
+// A registrar call's answer: how it ended, the reader's fault where the message does not read (else zeros), the slot it was
+// about (0 where it was refused), what is to be sent, and the next table.
 pub struct RegistrarAnswer {
     pub outcome: Outcome,
+    pub fault: Fault,
     pub slot: Slot,
     pub sends: bool,
     pub outgoing: Outgoing,
     pub table: TransactionTable,
 }
 
-// An end entity call's answer: what is to be sent, and the next enrolment.
+// An end entity call's answer: how it ended, the reader's fault where the message does not read (else zeros), what is to be
+// sent, and the next enrolment.
 pub struct EndEntityAnswer {
     pub outcome: Outcome,
+    pub fault: Fault,
     pub sends: bool,
     pub outgoing: Outgoing,
     pub enrolment: Enrolment,
