@@ -1,0 +1,132 @@
+// The rows of 01's table that both ends share, and the bit that goes with each number.
+use crate::parts::is_present;
+use crate::parts::not_sixteen;
+use grammar::Entry;
+use grammar::Header;
+use grammar::Message;
+use grammar::Offset;
+use message::Fault;
+use message::Reading;
+use protocol::FailureInfo;
+ghost use mathlib.Core.Path.{_≡_};
+ghost use mathlib.Core.Bool.{not, cond, _&&_, _||_};
+ghost use lib.Dec.{eqb};
+ghost use Rattle.protocol.specs.Message.{isPresent, fieldsOf, optionalStatus, statusOr0};
+ghost use Rattle.protocol.specs.Refusals.{bitOf, readRefusal, check, headRows};
+ghost use Rattle.incoming.specs.Incoming.{numberOf, faultOf};
+
+// The reader's fault; zeros where there is none.
+pub fn fault_of(reading: Reading) -> Fault
+    ensures { λ r. ⌜ r ≡ faultOf reading ⌝ }
+{
+    match reading {
+        Reading::Refused(fault) => fault,
+        Reading::Clean(_) => Fault {
+            number: 0,
+            at: Offset(0),
+            rule: 0,
+        },
+    }
+}
+
+// 1 or 2.
+pub fn read_refusal(fault: Fault) -> u8
+    ensures { λ r. ⌜ r ≡ readRefusal fault ⌝ }
+{
+    if fault.number == 1 { 1 } else { 2 }
+}
+
+// 3
+fn other_version(version: u32) -> bool
+    ensures { λ r. ⌜ r ≡ not (eqb version 2 || eqb version 3) ⌝ }
+{
+    if version == 2 {
+        return false;
+    }
+    if version == 3 {
+        return false;
+    }
+    true
+}
+
+// 6
+fn unprotected(m: Message, fields: Header) -> bool
+    ensures { λ r. ⌜ r ≡ not (isPresent (m .protection) && isPresent (fields .«protection_alg»)) ⌝ }
+{
+    if is_present(m.protection) {
+        if is_present(fields.protection_alg) {
+            return false;
+        }
+    }
+    true
+}
+
+// The lowest of the rows 3 to 7 that applies; 0 where none does.
+pub fn head_refusal(message: &[u8], m: Message, good: bool) -> u8
+    ensures { λ r. ⌜ r ≡ numberOf (check (headRows good (fieldsOf (now (message .entry)) m))) ⌝ }
+{
+    let fields = m.fields;
+    if other_version(fields.version) {
+        return 3;
+    }
+    if not_sixteen(message, fields.transaction_id) {
+        return 4;
+    }
+    if not_sixteen(message, fields.sender_nonce) {
+        return 5;
+    }
+    if unprotected(m, fields) {
+        return 6;
+    }
+    if good {
+        return 0;
+    }
+    7
+}
+
+// The status of the only entry, or of an error; one that is left out counts as 0.
+pub fn status_or_0(entry: Entry) -> u32
+    ensures { λ r. ⌜ r ≡ statusOr0 (optionalStatus (entry .«has_status») (entry .status)) ⌝ }
+{
+    if entry.has_status { entry.status } else { 0 }
+}
+
+// "11 if Confirmed, else 2"
+fn bit_of_20(confirmed: bool) -> FailureInfo
+    ensures { λ r. ⌜ r ≡ cond confirmed (FailureInfo.Bit 11) (FailureInfo.Bit 2) ⌝ }
+{
+    if confirmed {
+        FailureInfo::Bit(11)
+    } else {
+        FailureInfo::Bit(2)
+    }
+}
+
+// 01's column "bit".
+pub fn bit_of(number: u8, confirmed: bool) -> FailureInfo
+    ensures { λ r. ⌜ r ≡ bitOf number confirmed ⌝ }
+{
+    match number {
+        1 => FailureInfo::Bit(5),
+        2 => FailureInfo::Bit(5),
+        3 => FailureInfo::Bit(22),
+        4 => FailureInfo::Bit(5),
+        5 => FailureInfo::Bit(18),
+        6 => FailureInfo::Bit(1),
+        7 => FailureInfo::Bit(1),
+        8 => FailureInfo::Bit(2),
+        9 => FailureInfo::Bit(2),
+        10 => FailureInfo::Bit(21),
+        11 => FailureInfo::Bit(24),
+        12 => FailureInfo::Bit(2),
+        13 => FailureInfo::Bit(23),
+        14 => FailureInfo::Bit(13),
+        15 => FailureInfo::Bit(2),
+        16 => FailureInfo::Bit(2),
+        17 => FailureInfo::Bit(2),
+        18 => FailureInfo::Bit(2),
+        19 => FailureInfo::Bit(4),
+        20 => bit_of_20(confirmed),
+        _ => FailureInfo::NoBit,
+    }
+}
