@@ -1,19 +1,56 @@
--- The rows of a table, tested one after the other: a row that applies gives its number, one that doesn't is passed.
+-- The rows of a table, tested one after the other and group by group: the number of the lowest that applies.
 use Prim.Native.Nat.{ℕ}
 use mathlib.Core.List.{List, [], _∷_, _++_}
-use mathlib.Core.Bool.{Bool, true, false}
-use mathlib.Core.Path.{_≡_, refl}
-use Rattle.protocol.specs.Refusals.{Row, check}
+use mathlib.Core.Bool.{Bool, true, false, cond, _&&_}
+use mathlib.Core.Path.{_≡_, refl, sym, _∙_, ap}
+use native.Mathlib.Omega.{arith}
+use borrow.Author.Tests.{ltb-true}
+use lib.Dec.{ltb}
+use Rattle.protocol.specs.Refusals.{Row, Check, pass, stop, check}
+use Rattle.protocol.proofs.Tests.{true-false}
+use Rattle.protocol.proofs.Rows.{Lowest, check-is}
 use Rattle.incoming.specs.Incoming.{numberOf}
 
--- the number of the first row that applies; 0 where none does
-pub data Lowest : List Row → ℕ → Type 0 where
-  through : Lowest [] 0
-  halt : {r : Row} {rs : List Row} → r .applies ≡ true → Lowest (r ∷ rs) (r .number)
-  skip : {r : Row} {rs : List Row} {k : ℕ} → r .applies ≡ false → Lowest rs k → Lowest (r ∷ rs) k
+-- the number of the first row that applies
+pub lowest : {rs : List Row} {c : Check} → Lowest rs c → numberOf c ≡ numberOf (check rs)
+lowest l = sym (ap numberOf (check-is l))
 
-pub lowest : {rs : List Row} {k : ℕ} → Lowest rs k → k ≡ numberOf (check rs)
+-- ## Two groups of rows, the second after the first
+
+-- no row has the number 0
+unfoldable pub allPositive : List Row → Bool
+allPositive [] = true
+allPositive (r ∷ rs) = ltb 0 (r .number) && allPositive rs
+
+-- the first group's answer, unless it has none
+abbrev pub orElse : Check → Check → Check
+orElse pass d = d
+orElse (stop k) d = stop k
+
+append-at : (r : Row) (c d : Check) (t : Bool) → c ≡ d → cond t (stop (r .number)) c ≡ cond t (stop (r .number)) d
+append-at r c d t e = rw e
+
+else-at : (k : ℕ) (c d : Check) (t : Bool) → cond t (stop k) (orElse c d) ≡ orElse (cond t (stop k) c) d
+else-at k c d true = refl
+else-at k c d false = refl
+
+pub check-append : (rs qs : List Row) → check (rs ++ qs) ≡ orElse (check rs) (check qs)
 unfolding check
-lowest through = refl
-lowest (halt e) = rw e
-lowest (skip e l) = rw e (lowest l)
+check-append [] qs = refl
+check-append (r ∷ rs) qs = append-at r (check (rs ++ qs)) _ (r .applies) (check-append rs qs) ∙ else-at (r .number) (check rs) (check qs) (r .applies)
+
+-- a number other than 0 is the check's
+pub stops-at : (c : Check) (k : ℕ) → k ≡ numberOf c → (k ≡ 0 → ⊥) → c ≡ stop k
+stops-at pass k e d = absurd (d e)
+stops-at (stop n) k e d = ap stop (sym e)
+
+passes-at : (n : ℕ) (c : Check) (a b : Bool) → a ≡ ltb 0 n → (a && b) ≡ true → (b ≡ true → 0 ≡ numberOf c → c ≡ pass) → (t : Bool) → 0 ≡ numberOf (cond t (stop n) c) → cond t (stop n) c ≡ pass
+passes-at n c true b q p f true e = absurd (omega (arith, ltb-true 0 n (sym q)))
+passes-at n c true b q p f false e = f p e
+passes-at n c false b q p f t e = true-false (sym p)
+
+-- 0 is no row's number
+pub passes-all : (rs : List Row) → allPositive rs ≡ true → 0 ≡ numberOf (check rs) → check rs ≡ pass
+unfolding check allPositive
+passes-all [] p e = refl
+passes-all (r ∷ rs) p e = passes-at (r .number) (check rs) (ltb 0 (r .number)) (allPositive rs) refl p (λ q. passes-all rs q) (r .applies) e

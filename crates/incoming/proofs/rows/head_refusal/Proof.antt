@@ -3,7 +3,8 @@ use mathlib.Core.Bool.{not}
 use mathlib.Core.Path.{ap}
 use Rattle.der.proofs.Auto.{tests, told}
 use Rattle.protocol.specs.Message.{fieldsOf}
-use Rattle.incoming.proofs.RowLaws.{through, halt, skip, lowest}
+use Rattle.protocol.proofs.Rows.{through, halt, skip}
+use Rattle.incoming.proofs.RowLaws.{lowest}
 use Rattle.incoming.proofs.rows.head_refusal.Statement.{statement}
 use Rattle.incoming.proofs.rows.head_refusal.Tie as tie
 
