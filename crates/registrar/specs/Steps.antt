@@ -1,0 +1,68 @@
+-- The registrar's steps once more, over the slot and the plain values that the code hands on; the rows of its table in three groups.
+use Prim.Native.Nat.{ℕ}
+use mathlib.Core.List.{List, [], _∷_}
+use mathlib.Core.Bool.{Bool, true, false, cond}
+use mathlib.Core.Option.{Option}
+use lib.ListN.{getD, set}
+use lib.Dec.{leb}
+use Rattle.protocol.specs.declared.TransactionId.{TransactionId}
+use Rattle.protocol.specs.declared.Nonce.{Nonce}
+use Rattle.protocol.specs.declared.Verdict.{Verdict}
+use Rattle.protocol.specs.declared.TransactionState.{TransactionState}
+use Rattle.protocol.specs.declared.Transaction.{Transaction}
+use Rattle.protocol.specs.declared.TransactionTable.{TransactionTable}
+use Rattle.protocol.specs.declared.RegistrarAnswer.{RegistrarAnswer}
+use Rattle.protocol.specs.declared.Outcome.the-variants as outcome
+use Rattle.protocol.specs.Message.{Fields}
+use Rattle.protocol.specs.Outgoing.{silent, errorOut, pkiConfOut}
+use Rattle.protocol.specs.Table.{freeTransaction}
+use Rattle.protocol.specs.States.{isGranted, settledState}
+use Rattle.protocol.specs.Refusals.{Row, row, bitOf, noFault}
+use Rattle.protocol.specs.RegistrarRows.{otherKind, opensWithNonce, opensKnown, opensFull, confirmsUnknown, confirmsForAnother, confirmsOtherNonce, notOneEntry, otherRequest, hashAlgTooEarly, otherStatus, otherHash, notTaken}
+use Rattle.protocol.specs.Registrar.{doneSending, settled}
+
+-- ## Slots
+
+-- the transaction in a slot; past the last slot a free one
+abbrev pub heldAt : List Transaction → ℕ → Transaction
+heldAt rs p = getD rs p freeTransaction
+
+-- the table with another transaction in a slot
+abbrev pub withAt : TransactionTable → ℕ → Transaction → TransactionTable
+withAt t p x = record { transactions = set (t .transactions) p x }
+
+-- ## The rows after the first five
+
+-- 8 to 11
+abbrev pub requestRows : List Transaction → Option Transaction → Fields → List Row
+requestRows rs f m = row 8 (otherKind m) ∷ row 9 (opensWithNonce m) ∷ row 10 (opensKnown f m) ∷ row 11 (opensFull rs m) ∷ []
+
+-- 12 to 14
+abbrev pub senderRows : Option Transaction → Verdict → Transaction → Fields → List Row
+senderRows f v r m = row 12 (confirmsUnknown f m) ∷ row 13 (confirmsForAnother v r m) ∷ row 14 (confirmsOtherNonce r m) ∷ []
+
+-- 15 to 20
+abbrev pub entryRows : Transaction → Fields → List Row
+entryRows r m =
+    row 15 (notOneEntry m) ∷ row 16 (otherRequest r m) ∷ row 17 (hashAlgTooEarly m) ∷ row 18 (otherStatus m) ∷ row 19 (otherHash r m) ∷ row 20 (notTaken r m) ∷ []
+
+-- ## Answers
+
+-- refused: from 6 up with an error message for the id i, which answers the nonce a
+abbrev pub refusal : (number : ℕ) → (confirmed : Bool) → TransactionTable → (fresh : Nonce) → (i : TransactionId) → (a : Nonce) → RegistrarAnswer
+refusal k c t n i a =
+    record {
+      outcome = outcome.Refused k (bitOf k c);
+      fault = noFault;
+      slot = record { 0 = 0 };
+      sends = leb 6 k;
+      outgoing = cond (leb 6 k) (errorOut i n a (bitOf k c)) silent;
+      table = t;
+    }
+
+-- a confirmation of this status that is not refused, for the transaction r in the slot p: at Granted it moves, else it is "again"
+abbrev pub confirmation : TransactionTable → (p : ℕ) → (r : Transaction) → (fresh : Nonce) → (i : TransactionId) → (a : Nonce) → (status : ℕ) → RegistrarAnswer
+confirmation t p r n i a s =
+    cond (isGranted (r .state))
+    (doneSending p (set (t .transactions) p (settled r (settledState s) a)) (pkiConfOut i n a))
+    (record { outcome = outcome.Again; fault = noFault; slot = record { 0 = p }; sends = true; outgoing = pkiConfOut i n a; table = t })

@@ -1,0 +1,3 @@
+// The registrar's calls (01's desk): a message, and the host's issue, refuse, lapse and close.
+mod slots;
+mod states;

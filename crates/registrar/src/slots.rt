@@ -1,0 +1,102 @@
+// The table's slots: which one an id names, the lowest free one, and the table with one of them changed.
+use crate::states::is_free;
+use protocol::Board;
+use protocol::Hash;
+use protocol::Nonce;
+use protocol::Slot;
+use protocol::Transaction;
+use protocol::TransactionId;
+use protocol::TransactionState;
+use protocol::TransactionTable;
+ghost use mathlib.Core.Path.{_≡_};
+ghost use lib.ListN.{length};
+ghost use Rattle.protocol.specs.Table.{isFree, isFor, slotOf, freeSlot, freeTransaction};
+ghost use Rattle.registrar.specs.Steps.{heldAt, withAt};
+
+fn is_for(id: TransactionId, t: Transaction) -> bool
+    ensures { λ r. ⌜ r ≡ isFor id t ⌝ }
+{
+    let state = t.state;
+    if is_free(state) {
+        return false;
+    }
+    let own = t.id;
+    own.same(id)
+}
+
+// The slot in use that has the id; the number of slots where there is none.
+pub(crate) fn find(table: TransactionTable, id: TransactionId) -> usize
+    ensures { λ r. ⌜ (r ≡ slotOf (table .transactions) id) × (length (table .transactions) ≡ 16) ⌝ }
+{
+    let mut i: usize = 0;
+    while i < TransactionTable::CAPACITY {
+        let t = table.transactions[i];
+        if is_for(id, t) {
+            return i;
+        }
+        i += 1;
+    }
+    TransactionTable::CAPACITY
+}
+
+fn is_free_slot(t: Transaction) -> bool
+    ensures { λ r. ⌜ r ≡ isFree (t .state) ⌝ }
+{
+    let state = t.state;
+    is_free(state)
+}
+
+// The lowest free slot; the number of slots where there is none.
+pub(crate) fn free_slot(table: TransactionTable) -> usize
+    ensures { λ r. ⌜ (r ≡ freeSlot (table .transactions)) × (length (table .transactions) ≡ 16) ⌝ }
+{
+    let mut i: usize = 0;
+    while i < TransactionTable::CAPACITY {
+        let t = table.transactions[i];
+        if is_free_slot(t) {
+            return i;
+        }
+        i += 1;
+    }
+    TransactionTable::CAPACITY
+}
+
+// What a free slot holds.
+pub(crate) fn free_transaction() -> Transaction
+    ensures { λ r. ⌜ r ≡ freeTransaction ⌝ }
+{
+    Transaction {
+        id: TransactionId {
+            bytes: [0u8; TransactionTable::ID_BYTES],
+        },
+        board: Board(0),
+        kind: 0,
+        taken: Nonce { bytes: [0u8; 16] },
+        sent: Nonce { bytes: [0u8; 16] },
+        hash: Hash { bytes: [0u8; 32] },
+        state: TransactionState::Free,
+    }
+}
+
+// The transaction in a slot; a free one past the last slot.
+pub fn transaction_at(table: TransactionTable, slot: Slot) -> Transaction
+    ensures { λ r. ⌜ r ≡ heldAt (table .transactions) (slot .0) ⌝ }
+{
+    let at = slot.0;
+    if at < TransactionTable::CAPACITY {
+        return table.transactions[at];
+    }
+    free_transaction()
+}
+
+// The table with this transaction in a slot; as it was past the last slot.
+pub(crate) fn with_at(table: TransactionTable, slot: Slot, x: Transaction) -> TransactionTable
+    ensures { λ r. ⌜ r ≡ withAt table (slot .0) x ⌝ }
+{
+    let at = slot.0;
+    let mut next = table;
+    if at < TransactionTable::CAPACITY {
+        next.transactions[at] = x;
+    }
+    next
+}
