@@ -1,8 +1,8 @@
--- The registrar's steps once more, over the slot and the plain values that the code hands on; the rows of its table in three groups.
+-- The registrar's steps once more, over the slot and the plain values that the code hands on; the rows of its table after those that both ends share.
 use Prim.Native.Nat.{ℕ}
 use mathlib.Core.List.{List, [], _∷_}
 use mathlib.Core.Bool.{Bool, true, false, cond}
-use mathlib.Core.Option.{Option}
+use mathlib.Core.Option.{Option, none, some}
 use lib.ListN.{getD, set}
 use lib.Dec.{leb}
 use Rattle.protocol.specs.declared.TransactionId.{TransactionId}
@@ -33,18 +33,27 @@ withAt t p x = record { transactions = set (t .transactions) p x }
 
 -- ## The rows after the first five
 
--- 8 to 11
-abbrev pub requestRows : List Transaction → Option Transaction → Fields → List Row
-requestRows rs f m = row 8 (otherKind m) ∷ row 9 (opensWithNonce m) ∷ row 10 (opensKnown f m) ∷ row 11 (opensFull rs m) ∷ []
-
--- 12 to 14
-abbrev pub senderRows : Option Transaction → Verdict → Transaction → Fields → List Row
-senderRows f v r m = row 12 (confirmsUnknown f m) ∷ row 13 (confirmsForAnother v r m) ∷ row 14 (confirmsOtherNonce r m) ∷ []
-
 -- 15 to 20
 abbrev pub entryRows : Transaction → Fields → List Row
 entryRows r m =
     row 15 (notOneEntry m) ∷ row 16 (otherRequest r m) ∷ row 17 (hashAlgTooEarly m) ∷ row 18 (otherStatus m) ∷ row 19 (otherHash r m) ∷ row 20 (notTaken r m) ∷ []
+
+-- 8 to 20: f is the transaction with the message's id, r the same or a free one where there is none
+abbrev pub laterRows : List Transaction → Option Transaction → Verdict → Transaction → Fields → List Row
+laterRows rs f v r m =
+    row 8 (otherKind m)
+    ∷ row 9 (opensWithNonce m)
+    ∷ row 10 (opensKnown f m)
+    ∷ row 11 (opensFull rs m)
+    ∷ row 12 (confirmsUnknown f m)
+    ∷ row 13 (confirmsForAnother v r m)
+    ∷ row 14 (confirmsOtherNonce r m)
+    ∷ entryRows r m
+
+-- the transaction r, if there is one
+abbrev pub foundBy : (known : Bool) → Transaction → Option Transaction
+foundBy true r = some r
+foundBy false r = none
 
 -- ## Answers
 
