@@ -1,2 +1,4 @@
 pub mod SlotLaws
 pub mod Chains
+pub mod HostLaws
+pub mod StepLaws

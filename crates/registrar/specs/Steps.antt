@@ -3,23 +3,28 @@ use Prim.Native.Nat.{ℕ}
 use mathlib.Core.List.{List, [], _∷_}
 use mathlib.Core.Bool.{Bool, true, false, cond}
 use mathlib.Core.Option.{Option, none, some}
+use mathlib.Core.Path.{_≡_}
 use lib.ListN.{getD, set}
 use lib.Dec.{leb}
+use Rattle.grammar.specs.declared.Message.{Message}
 use Rattle.protocol.specs.declared.TransactionId.{TransactionId}
 use Rattle.protocol.specs.declared.Nonce.{Nonce}
+use Rattle.protocol.specs.declared.Hash.{Hash}
+use Rattle.protocol.specs.declared.Outgoing.{Outgoing}
 use Rattle.protocol.specs.declared.Verdict.{Verdict}
 use Rattle.protocol.specs.declared.TransactionState.{TransactionState}
 use Rattle.protocol.specs.declared.Transaction.{Transaction}
 use Rattle.protocol.specs.declared.TransactionTable.{TransactionTable}
 use Rattle.protocol.specs.declared.RegistrarAnswer.{RegistrarAnswer}
 use Rattle.protocol.specs.declared.Outcome.the-variants as outcome
-use Rattle.protocol.specs.Message.{Fields}
-use Rattle.protocol.specs.Outgoing.{silent, errorOut, pkiConfOut}
+use Rattle.protocol.specs.Bytes.{asId, asNonce}
+use Rattle.protocol.specs.Message.{Fields, fieldsOf, responseTo}
+use Rattle.protocol.specs.Outgoing.{silent, errorOut, pkiConfOut, responseOut}
 use Rattle.protocol.specs.Table.{freeTransaction}
 use Rattle.protocol.specs.States.{isGranted, settledState}
 use Rattle.protocol.specs.Refusals.{Row, row, bitOf, noFault}
 use Rattle.protocol.specs.RegistrarRows.{otherKind, opensWithNonce, opensKnown, opensFull, confirmsUnknown, confirmsForAnother, confirmsOtherNonce, notOneEntry, otherRequest, hashAlgTooEarly, otherStatus, otherHash, notTaken}
-use Rattle.protocol.specs.Registrar.{doneSending, settled}
+use Rattle.protocol.specs.Registrar.{doneSending, settled, responded}
 
 -- ## Slots
 
@@ -69,9 +74,20 @@ refusal k c t n i a =
       table = t;
     }
 
+-- "again": the same acknowledgement, and no change
+abbrev pub repeated : (p : ℕ) → TransactionTable → Outgoing → RegistrarAnswer
+repeated p t o = record { outcome = outcome.Again; fault = noFault; slot = record { 0 = p }; sends = true; outgoing = o; table = t }
+
 -- a confirmation of this status that is not refused, for the transaction r in the slot p: at Granted it moves, else it is "again"
 abbrev pub confirmation : TransactionTable → (p : ℕ) → (r : Transaction) → (fresh : Nonce) → (i : TransactionId) → (a : Nonce) → (status : ℕ) → RegistrarAnswer
 confirmation t p r n i a s =
-    cond (isGranted (r .state))
-    (doneSending p (set (t .transactions) p (settled r (settledState s) a)) (pkiConfOut i n a))
-    (record { outcome = outcome.Again; fault = noFault; slot = record { 0 = p }; sends = true; outgoing = pkiConfOut i n a; table = t })
+    cond (isGranted (r .state)) (doneSending p (set (t .transactions) p (settled r (settledState s) a)) (pkiConfOut i n a)) (repeated p t (pkiConfOut i n a))
+
+-- a response of this status for the transaction r in the slot p, which then is in the state s
+abbrev pub response : TransactionTable → (p : ℕ) → (r : Transaction) → TransactionId → TransactionState → (status : ℕ) → Nonce → Hash → RegistrarAnswer
+response t p r i s status n h = doneSending p (set (t .transactions) p (responded r s n h)) (responseOut (responseTo (r .kind)) i n (r .taken) status)
+
+-- the id and the nonce that the code copies out of a message are the message's own
+pub record Copied (bytes : List ℕ) (m : Message) (i : TransactionId) (a : Nonce) : Type 0 where
+  pub id : i ≡ asId (fieldsOf bytes m .id)
+  pub nonce : a ≡ asNonce (fieldsOf bytes m .senderNonce)

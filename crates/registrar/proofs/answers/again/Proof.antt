@@ -1,0 +1,8 @@
+use Rattle.der.proofs.Auto.{tests, told}
+use Rattle.registrar.proofs.answers.again.Statement.{statement}
+use Rattle.registrar.proofs.answers.again.Tie as tie
+
+pub again-spec : {M : Type 1} → statement M
+again-spec = tie.close (tie.spec
+    (λ c κs. search tests)
+    (λ c. search (tests, c .no-fault .ensures)))

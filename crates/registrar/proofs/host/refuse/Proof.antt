@@ -1,0 +1,23 @@
+-- By the slot of the id, and the state there.
+use Prim.Native.Nat.{ℕ}
+use mathlib.Core.Path.{_≡_, _∙_, ap}
+use borrow.Author.Needs.{needs}
+use lib.ListN.{set}
+use Rattle.der.proofs.Auto.{told}
+use Rattle.protocol.specs.declared.Transaction.{Transaction}
+use Rattle.protocol.specs.Registrar.{doneQuietly}
+use Rattle.registrar.proofs.HostLaws.{refuse-30, refuse-31, refuse-done}
+use Rattle.registrar.proofs.host.refuse.Statement.{statement}
+use Rattle.registrar.proofs.host.refuse.Tie as tie
+
+pub refuse-spec : {M : Type 1} → statement M
+refuse-spec = tie.close (tie.spec
+    (λ c κs. search needs)
+    (λ c κs. search needs)
+    (λ c κs. search needs)
+    (λ c κs. search needs)
+    (λ c. c .respond .ensures ∙ refuse-done (c .before .before .before .before .before .before .args .table) (c .before .before .before .before .before .before .args .id) (c .before .before .before .before .before .find .result) (c .before .before .before .before .before .find .ensures .0) (c .before .before .before .before .before .find .ensures .1) (c .before .before .before .before .before .before .args .nonce) (c .before .before .before .transaction-at .result) (c .before .before .before .transaction-at .ensures) (c .before .before .before .before .if1 .taken) (told (c .before .before .is-asked .ensures) (c .before .if2 .taken)))
+    (λ c κs. search needs)
+    (λ c. c .refused-quietly .ensures ∙ refuse-31 (c .before .before .before .before .before .before .args .table) (c .before .before .before .before .before .before .args .id) (c .before .before .before .before .before .find .result) (c .before .before .before .before .before .find .ensures .0) (c .before .before .before .before .before .find .ensures .1) (c .before .before .before .before .before .before .args .nonce) (c .before .before .before .transaction-at .result) (c .before .before .before .transaction-at .ensures) (c .before .before .before .before .if1 .taken) (told (c .before .before .is-asked .ensures) (c .before .if2 .left)))
+    (λ c κs. search needs)
+    (λ c. c .refused-quietly2 .ensures ∙ refuse-30 (c .before .before .before .args .table) (c .before .before .before .args .id) (c .before .before .find .result) (c .before .before .find .ensures .0) (c .before .before .find .ensures .1) (c .before .before .before .args .nonce) (c .before .if1 .left)))

@@ -1,0 +1,181 @@
+// The host's steps: issue, refuse, lapse and close. Each names its transaction by the id.
+use crate::answers::done_quietly;
+use crate::answers::done_sending;
+use crate::answers::refused_quietly;
+use crate::answers::response_out;
+use crate::slots::find;
+use crate::slots::free_transaction;
+use crate::slots::transaction_at;
+use crate::slots::with_at;
+use crate::states::is_asked;
+use crate::states::is_granted;
+use crate::states::may_close;
+use protocol::Hash;
+use protocol::Nonce;
+use protocol::RegistrarAnswer;
+use protocol::Slot;
+use protocol::Transaction;
+use protocol::TransactionId;
+use protocol::TransactionState;
+use protocol::TransactionTable;
+use protocol::kinds::response_to;
+ghost use mathlib.Core.Path.{_≡_};
+ghost use lib.ListN.{set};
+ghost use Rattle.protocol.specs.Registrar.{settled, responded, doneQuietly, registrarIssue, registrarRefuse, registrarLapse, registrarClose};
+ghost use Rattle.registrar.specs.Steps.{response};
+
+// The transaction in another state, with another nonce taken.
+pub(crate) fn settled(held: Transaction, state: TransactionState, taken: Nonce) -> Transaction
+    ensures { λ r. ⌜ r ≡ settled held state taken ⌝ }
+{
+    let id = held.id;
+    let board = held.board;
+    let sent = held.sent;
+    let hash = held.hash;
+    Transaction {
+        id,
+        board,
+        kind: held.kind,
+        taken,
+        sent,
+        hash,
+        state,
+    }
+}
+
+// The transaction in another state, with a response nonce sent and a hash.
+fn responded(held: Transaction, state: TransactionState, sent: Nonce, hash: Hash) -> Transaction
+    ensures { λ r. ⌜ r ≡ responded held state sent hash ⌝ }
+{
+    let id = held.id;
+    let board = held.board;
+    let taken = held.taken;
+    Transaction {
+        id,
+        board,
+        kind: held.kind,
+        taken,
+        sent,
+        hash,
+        state,
+    }
+}
+
+// The response to the transaction's request.
+fn respond(
+    table: TransactionTable,
+    slot: Slot,
+    held: Transaction,
+    id: TransactionId,
+    state: TransactionState,
+    status: u32,
+    nonce: Nonce,
+    hash: Hash,
+) -> RegistrarAnswer
+    ensures { λ r. ⌜ r ≡ response table (slot .0) held id state status nonce hash ⌝ }
+{
+    let next = with_at(table, slot, responded(held, state, nonce, hash));
+    done_sending(
+        slot,
+        next,
+        response_out(response_to(held.kind), id, nonce, held.taken, status),
+    )
+}
+
+// The transaction in the slot becomes `x`.
+fn changed(table: TransactionTable, slot: Slot, x: Transaction) -> RegistrarAnswer
+    ensures { λ r. ⌜ r ≡ doneQuietly (slot .0) (set (table .transactions) (slot .0) x) ⌝ }
+{
+    done_quietly(slot, with_at(table, slot, x))
+}
+
+// Asked to Granted: the certificate with this hash is sent.
+pub fn issue(
+    table: TransactionTable,
+    id: TransactionId,
+    nonce: Nonce,
+    hash: Hash,
+) -> RegistrarAnswer
+    ensures { λ r. ⌜ r ≡ registrarIssue table id nonce hash ⌝ }
+{
+    let slot = find(table, id);
+    if slot < TransactionTable::CAPACITY {
+        let held = transaction_at(table, Slot(slot));
+        let state = held.state;
+        if is_asked(state) {
+            return respond(
+                table,
+                Slot(slot),
+                held,
+                id,
+                TransactionState::Granted,
+                0,
+                nonce,
+                hash,
+            );
+        }
+        return refused_quietly(31, table);
+    }
+    refused_quietly(30, table)
+}
+
+// Asked to Refused: the request is rejected.
+pub fn refuse(table: TransactionTable, id: TransactionId, nonce: Nonce) -> RegistrarAnswer
+    ensures { λ r. ⌜ r ≡ registrarRefuse table id nonce ⌝ }
+{
+    let slot = find(table, id);
+    if slot < TransactionTable::CAPACITY {
+        let held = transaction_at(table, Slot(slot));
+        let state = held.state;
+        if is_asked(state) {
+            return respond(
+                table,
+                Slot(slot),
+                held,
+                id,
+                TransactionState::Refused,
+                2,
+                nonce,
+                held.hash,
+            );
+        }
+        return refused_quietly(31, table);
+    }
+    refused_quietly(30, table)
+}
+
+// Granted to Lapsed: no confirmation came.
+pub fn lapse(table: TransactionTable, id: TransactionId) -> RegistrarAnswer
+    ensures { λ r. ⌜ r ≡ registrarLapse table id ⌝ }
+{
+    let slot = find(table, id);
+    if slot < TransactionTable::CAPACITY {
+        let held = transaction_at(table, Slot(slot));
+        let state = held.state;
+        if is_granted(state) {
+            return changed(
+                table,
+                Slot(slot),
+                settled(held, TransactionState::Lapsed, held.taken),
+            );
+        }
+        return refused_quietly(31, table);
+    }
+    refused_quietly(30, table)
+}
+
+// Confirmed, Declined, Refused or Lapsed to free.
+pub fn close(table: TransactionTable, id: TransactionId) -> RegistrarAnswer
+    ensures { λ r. ⌜ r ≡ registrarClose table id ⌝ }
+{
+    let slot = find(table, id);
+    if slot < TransactionTable::CAPACITY {
+        let held = transaction_at(table, Slot(slot));
+        let state = held.state;
+        if may_close(state) {
+            return changed(table, Slot(slot), free_transaction());
+        }
+        return refused_quietly(31, table);
+    }
+    refused_quietly(30, table)
+}

@@ -1,0 +1,166 @@
+// A message at the registrar.
+use crate::answers::again;
+use crate::answers::done_quietly;
+use crate::answers::done_sending;
+use crate::answers::pki_conf_out;
+use crate::answers::refused_message;
+use crate::answers::refused_reading;
+use crate::host::settled;
+use crate::rows::is_good;
+use crate::rows::later_refusal;
+use crate::slots::find;
+use crate::slots::free_slot;
+use crate::slots::transaction_at;
+use crate::slots::with_at;
+use crate::states::is_confirmed;
+use crate::states::is_granted;
+use crate::states::settled_state;
+use grammar::Message;
+use incoming::parts::id_of;
+use incoming::parts::nonce_of;
+use incoming::rows::fault_of;
+use incoming::rows::head_refusal;
+use incoming::rows::status_or_0;
+use message::Reading;
+use message::read;
+use protocol::Board;
+use protocol::Hash;
+use protocol::Nonce;
+use protocol::RegistrarAnswer;
+use protocol::RegistrarInput;
+use protocol::Slot;
+use protocol::Transaction;
+use protocol::TransactionId;
+use protocol::TransactionState;
+use protocol::TransactionTable;
+use protocol::Verdict;
+ghost use mathlib.Core.Path.{_≡_};
+ghost use mathlib.Core.Option.{Option·getD};
+ghost use Rattle.protocol.specs.Bytes.{noNonce, noHash};
+ghost use Rattle.protocol.specs.Message.{fieldsOf};
+ghost use Rattle.protocol.specs.Table.{freeSlot, put, lookup, freeTransaction};
+ghost use Rattle.protocol.specs.Refusals.{check};
+ghost use Rattle.protocol.specs.Registrar.{boardNamed, doneQuietly, registrarChecked, registrarFields, registrarMessage};
+ghost use Rattle.registrar.specs.Steps.{laterRows, confirmation, Copied};
+
+fn board_named(verdict: Verdict) -> Board
+    ensures { λ r. ⌜ r ≡ boardNamed verdict ⌝ }
+{
+    match verdict {
+        Verdict::Good(board) => board,
+        Verdict::Bad => Board(0),
+    }
+}
+
+// A request that is not refused: the lowest free slot becomes Asked.
+fn open(
+    table: TransactionTable,
+    id: TransactionId,
+    board: Board,
+    kind: u8,
+    taken: Nonce,
+) -> RegistrarAnswer
+    ensures { λ r. ⌜ r ≡ doneQuietly (freeSlot (table .transactions)) (put (table .transactions) (record { id = id; board = board; kind = kind; taken = taken; sent = noNonce; hash = noHash; state = TransactionState.Asked })) ⌝ }
+{
+    let slot = free_slot(table);
+    let asked = Transaction {
+        id,
+        board,
+        kind,
+        taken,
+        sent: Nonce { bytes: [0u8; 16] },
+        hash: Hash { bytes: [0u8; 32] },
+        state: TransactionState::Asked,
+    };
+    done_quietly(Slot(slot), with_at(table, Slot(slot), asked))
+}
+
+// A confirmation that is not refused: it moves the transaction at Granted, else it is the same once more.
+fn confirm(
+    table: TransactionTable,
+    slot: Slot,
+    held: Transaction,
+    fresh: Nonce,
+    id: TransactionId,
+    answered: Nonce,
+    status: u32,
+) -> RegistrarAnswer
+    ensures { λ r. ⌜ r ≡ confirmation table (slot .0) held fresh id answered status ⌝ }
+{
+    let outgoing = pki_conf_out(id, fresh, answered);
+    let state = held.state;
+    if is_granted(state) {
+        let next = settled(held, settled_state(status), answered);
+        return done_sending(slot, with_at(table, slot, next), outgoing);
+    }
+    again(slot, table, outgoing)
+}
+
+// A message that the rows 3 to 7 do not refuse: `id` and `answered` are its id and its senderNonce.
+fn headed(
+    table: TransactionTable,
+    bytes: &[u8],
+    m: Message,
+    input: RegistrarInput,
+    id: TransactionId,
+    answered: Nonce,
+) -> RegistrarAnswer
+    requires { ⌜ Copied (now bytes) m id answered ⌝ }
+    ensures { λ r. ⌜ r ≡ registrarChecked (check (laterRows (table .transactions) (lookup (table .transactions) id) (input .verdict) (Option·getD (lookup (table .transactions) id) freeTransaction) (fieldsOf (now (bytes .entry)) m))) (lookup (table .transactions) id) table input (fieldsOf (now (bytes .entry)) m) ⌝ }
+{
+    let contents = m.contents;
+    let verdict = input.verdict;
+    let slot = find(table, id);
+    let held = transaction_at(table, Slot(slot));
+    let known = slot < TransactionTable::CAPACITY;
+    let number = later_refusal(table, bytes, m, known, held, verdict);
+    if number != 0 {
+        let state = held.state;
+        return refused_message(
+            number,
+            is_confirmed(state),
+            table,
+            input.nonce,
+            id,
+            answered,
+        );
+    }
+    if known {
+        return confirm(
+            table,
+            Slot(slot),
+            held,
+            input.nonce,
+            id,
+            answered,
+            status_or_0(contents.entry),
+        );
+    }
+    open(table, id, board_named(verdict), contents.kind, answered)
+}
+
+// A message that reads.
+fn step(table: TransactionTable, bytes: &[u8], m: Message, input: RegistrarInput) -> RegistrarAnswer
+    ensures { λ r. ⌜ r ≡ registrarFields table input (fieldsOf (now (bytes .entry)) m) ⌝ }
+{
+    let fields = m.fields;
+    let verdict = input.verdict;
+    let id = id_of(bytes, fields.transaction_id);
+    let answered = nonce_of(bytes, fields.sender_nonce);
+    let number = head_refusal(bytes, m, is_good(verdict));
+    if number != 0 {
+        return refused_message(number, false, table, input.nonce, id, answered);
+    }
+    headed(table, bytes, m, input, id, answered)
+}
+
+// A message: a request opens a transaction, a certConf settles one, and all else is refused.
+pub fn message(table: TransactionTable, bytes: &[u8], input: RegistrarInput) -> RegistrarAnswer
+    ensures { λ r. ⌜ r ≡ registrarMessage table input (now (bytes .entry)) ⌝ }
+{
+    let reading = read(bytes);
+    let Reading::Clean(m) = reading else {
+        return refused_reading(fault_of(reading), table);
+    };
+    step(table, bytes, m, input)
+}
