@@ -35,42 +35,48 @@ pub(crate) fn is_asked(s: TransactionState) -> bool
 pub(crate) fn is_granted(s: TransactionState) -> bool
     ensures { λ r. ⌜ r ≡ isGranted s ⌝ }
 {
+    let elsewhere = false;
+    let granted = true;
     match s {
-        TransactionState::Free => false,
-        TransactionState::Asked => false,
-        TransactionState::Granted => true,
-        TransactionState::Confirmed => false,
-        TransactionState::Declined => false,
-        TransactionState::Refused => false,
-        TransactionState::Lapsed => false,
+        TransactionState::Free => elsewhere,
+        TransactionState::Asked => elsewhere,
+        TransactionState::Granted => granted,
+        TransactionState::Confirmed => elsewhere,
+        TransactionState::Declined => elsewhere,
+        TransactionState::Refused => elsewhere,
+        TransactionState::Lapsed => elsewhere,
     }
 }
 
 pub(crate) fn has_sent(s: TransactionState) -> bool
     ensures { λ r. ⌜ r ≡ hasSent s ⌝ }
 {
+    let unsent = false;
+    let sent = true;
     match s {
-        TransactionState::Free => false,
-        TransactionState::Asked => false,
-        TransactionState::Granted => true,
-        TransactionState::Confirmed => true,
-        TransactionState::Declined => true,
-        TransactionState::Refused => true,
-        TransactionState::Lapsed => true,
+        TransactionState::Free => unsent,
+        TransactionState::Asked => unsent,
+        TransactionState::Granted => sent,
+        TransactionState::Confirmed => sent,
+        TransactionState::Declined => sent,
+        TransactionState::Refused => sent,
+        TransactionState::Lapsed => sent,
     }
 }
 
 pub(crate) fn has_hash(s: TransactionState) -> bool
     ensures { λ r. ⌜ r ≡ hasHash s ⌝ }
 {
+    let unset = false;
+    let set = true;
     match s {
-        TransactionState::Free => false,
-        TransactionState::Asked => false,
-        TransactionState::Granted => true,
-        TransactionState::Confirmed => true,
-        TransactionState::Declined => true,
-        TransactionState::Refused => false,
-        TransactionState::Lapsed => true,
+        TransactionState::Free => unset,
+        TransactionState::Asked => unset,
+        TransactionState::Granted => set,
+        TransactionState::Confirmed => set,
+        TransactionState::Declined => set,
+        TransactionState::Refused => unset,
+        TransactionState::Lapsed => set,
     }
 }
 
@@ -101,27 +107,31 @@ pub(crate) fn settled_state(status: u32) -> TransactionState
 pub(crate) fn may_close(s: TransactionState) -> bool
     ensures { λ r. ⌜ r ≡ mayClose s ⌝ }
 {
+    let running = false;
+    let ended = true;
     match s {
-        TransactionState::Free => false,
-        TransactionState::Asked => false,
-        TransactionState::Granted => false,
-        TransactionState::Confirmed => true,
-        TransactionState::Declined => true,
-        TransactionState::Refused => true,
-        TransactionState::Lapsed => true,
+        TransactionState::Free => running,
+        TransactionState::Asked => running,
+        TransactionState::Granted => running,
+        TransactionState::Confirmed => ended,
+        TransactionState::Declined => ended,
+        TransactionState::Refused => ended,
+        TransactionState::Lapsed => ended,
     }
 }
 
 pub(crate) fn is_confirmed(s: TransactionState) -> bool
     ensures { λ r. ⌜ r ≡ isConfirmed s ⌝ }
 {
+    let unconfirmed = false;
+    let confirmed = true;
     match s {
-        TransactionState::Free => false,
-        TransactionState::Asked => false,
-        TransactionState::Granted => false,
-        TransactionState::Confirmed => true,
-        TransactionState::Declined => false,
-        TransactionState::Refused => false,
-        TransactionState::Lapsed => false,
+        TransactionState::Free => unconfirmed,
+        TransactionState::Asked => unconfirmed,
+        TransactionState::Granted => unconfirmed,
+        TransactionState::Confirmed => confirmed,
+        TransactionState::Declined => unconfirmed,
+        TransactionState::Refused => unconfirmed,
+        TransactionState::Lapsed => unconfirmed,
     }
 }
