@@ -1,0 +1,3 @@
+// The end entity (01's board end): its calls on one enrolment. The start, a message, and a time out.
+mod rows;
+mod states;
