@@ -15,7 +15,7 @@ use Rattle.incoming.specs.Incoming.{numberOf}
 use Rattle.incoming.proofs.RowLaws.{Lowest, skip}
 
 -- no row has the number 0, which stands for none
-abbrev numbered : List Row → Bool
+abbrev pub numbered : List Row → Bool
 numbered [] = true
 numbered (r ∷ rs) = not (eqb (r .number) 0) && numbered rs
 
@@ -29,7 +29,7 @@ passed-by : (n : ℕ) (c : Check) → (numberOf c ≡ 0 → c ≡ pass) → not 
 passed-by n c ih p true e = true-false (sym p ∙ ap (λ (k : ℕ). not (eqb k 0)) e)
 passed-by n c ih p false e = ih e
 
-passed : (rs : List Row) → numbered rs ≡ true → numberOf (check rs) ≡ 0 → check rs ≡ pass
+pub passed : (rs : List Row) → numbered rs ≡ true → numberOf (check rs) ≡ 0 → check rs ≡ pass
 unfolding check
 passed [] p e = refl
 passed (r ∷ rs) p e =

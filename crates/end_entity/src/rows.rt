@@ -1,4 +1,5 @@
 // The rows of 01's table for a message at an end entity, in the table's order; rows 3 to 7 are those of both ends.
+use crate::states::is_awaiting;
 use crate::states::is_confirming;
 use crate::states::is_waiting;
 use grammar::Message;
@@ -137,10 +138,7 @@ fn not_awaited(kind: u8, state: EnrolmentState) -> bool
         return true;
     }
     if kind == 23 {
-        if is_waiting(state) {
-            return false;
-        }
-        if is_confirming(state) {
+        if is_awaiting(state) {
             return false;
         }
         return true;

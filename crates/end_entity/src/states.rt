@@ -1,6 +1,7 @@
 // The end entity's states (01's board states): which take what, and where they lead.
 use protocol::EnrolmentState;
 ghost use mathlib.Core.Path.{_≡_};
+ghost use mathlib.Core.Bool.{_||_};
 ghost use Rattle.protocol.specs.States.{isWaiting, isConfirming, broken, assured, decided, decision};
 
 // Whether a response is awaited.
@@ -31,6 +32,16 @@ pub fn is_confirming(state: EnrolmentState) -> bool
         EnrolmentState::Failed => false,
         EnrolmentState::Unsettled => false,
     }
+}
+
+// Whether anything is awaited.
+pub fn is_awaiting(state: EnrolmentState) -> bool
+    ensures { λ r. ⌜ r ≡ (isWaiting state || isConfirming state) ⌝ }
+{
+    if is_waiting(state) {
+        return true;
+    }
+    is_confirming(state)
 }
 
 // Where an error or a time out leads.

@@ -1,4 +1,4 @@
-use Rattle.der.proofs.Auto.{tests, told}
+use Rattle.der.proofs.Auto.{tests}
 use Rattle.end_entity.proofs.rows.is_response.Statement.{statement}
 use Rattle.end_entity.proofs.rows.is_response.Tie as tie
 

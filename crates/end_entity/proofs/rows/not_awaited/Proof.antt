@@ -9,18 +9,16 @@ not-awaited-spec = tie.close (tie.spec
     (λ c. rw (c .before .before .if1 .taken, told (c .before .is-confirming .ensures) (c .if2 .taken)))
     (λ c. rw (c .before .before .if1 .taken, told (c .before .is-confirming .ensures) (c .if2 .left)))
     (λ c κs. search tests)
-    (λ c. rw (c .before .before .if3 .taken, told (c .before .is-waiting .ensures) (c .if4 .taken)))
-    (λ c κs. search tests)
-    (λ c. rw (c .before .before .before .before .if3 .taken, told (c .before .is-confirming2 .ensures) (c .if5 .taken), told (c .before .before .before .is-waiting .ensures) (c .before .before .if4 .left)))
-    (λ c. rw (c .before .before .before .before .if3 .taken, told (c .before .is-confirming2 .ensures) (c .if5 .left), told (c .before .before .before .is-waiting .ensures) (c .before .before .if4 .left)))
+    (λ c. rw (c .before .before .if3 .taken, told (c .before .is-awaiting .ensures) (c .if4 .taken)))
+    (λ c. rw (c .before .before .if3 .taken, told (c .before .is-awaiting .ensures) (c .if4 .left)))
     (λ c κs. search tests)
     (λ c κs. search tests)
     (λ c.
     let o = c .before .before .before in
     let e = o .before in
-    rw (ne-eqb (e .before .before .args .kind) 19 (e .before .if1 .left), ne-eqb (e .before .before .args .kind) 23 (e .if3 .left), told (o .is-response .ensures) (c .before .before .if6 .taken), told (c .before .is-waiting2 .ensures) (c .if7 .taken)))
+    rw (ne-eqb (e .before .before .args .kind) 19 (e .before .if1 .left), ne-eqb (e .before .before .args .kind) 23 (e .if3 .left), told (o .is-response .ensures) (c .before .before .if5 .taken), told (c .before .is-waiting .ensures) (c .if6 .taken)))
     (λ c.
     let o = c .before .before .before in
     let e = o .before in
-    rw (ne-eqb (e .before .before .args .kind) 19 (e .before .if1 .left), ne-eqb (e .before .before .args .kind) 23 (e .if3 .left), told (o .is-response .ensures) (c .before .before .if6 .taken), told (c .before .is-waiting2 .ensures) (c .if7 .left)))
-    (λ c. search (tests, told (c .before .is-response .ensures) (c .if6 .left))))
+    rw (ne-eqb (e .before .before .args .kind) 19 (e .before .if1 .left), ne-eqb (e .before .before .args .kind) 23 (e .if3 .left), told (o .is-response .ensures) (c .before .before .if5 .taken), told (c .before .is-waiting .ensures) (c .if6 .left)))
+    (λ c. search (tests, told (c .before .is-response .ensures) (c .if5 .left))))
