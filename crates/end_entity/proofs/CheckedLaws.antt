@@ -3,7 +3,7 @@ use Prim.Native.Nat.{ℕ}
 use mathlib.Core.List.{List}
 use mathlib.Core.Bool.{Bool, true, false, not, cond}
 use mathlib.Core.Option.{none, some}
-use mathlib.Core.Path.{_≡_, refl, sym, _∙_, ap}
+use mathlib.Core.Path.{_≡_, refl, sym, _∙_}
 use borrow.Author.Tests.{ne-eqb}
 use lib.ListN.{length}
 use lib.Dec.{eqb}
@@ -31,34 +31,35 @@ module _ (x : Enrolment) (d : EndEntityInput) (m : Fields) where
   abbrev rows : List Row
   rows = endEntityRows x (d .good) m
 
-  abbrev pub Answers : EndEntityAnswer → Type 0
-  Answers a = a ≡ endEntityChecked (check rows) x d m
-
-  pub refused-by : (k : ℕ) → k ≡ numberOf (check rows) → (k ≡ 0 → ⊥) → Answers (enrolmentRefused k (afterRefusal k m x))
+  pub refused-by : (k : ℕ) → k ≡ numberOf (check rows) → (k ≡ 0 → ⊥) → enrolmentRefused k (afterRefusal k m x) ≡ endEntityChecked (check rows) x d m
   unfolding endEntityChecked
   refused-by k e n = rw (stopped (check rows) k e n)
 
-  module _ (none-applies : 0 ≡ numberOf (check rows)) where
-    pub passes-all : check rows ≡ pass
-    unfolding endEntityRows
-    passes-all = passed rows refl (sym none-applies)
+  pub passes-all : 0 ≡ numberOf (check rows) → check rows ≡ pass
+  unfolding endEntityRows
+  passes-all e = passed rows refl (sym e)
 
-    pub acknowledged : m .kind ≡ 19 → Answers (enrolmentMoved (inState x (assured (x .state))))
+  -- ## A message that no row refuses
+
+  abbrev Answers : EndEntityAnswer → Type 0
+  Answers a = a ≡ endEntityChecked pass x d m
+
+  pub acknowledged : m .kind ≡ 19 → Answers (enrolmentMoved (inState x (assured (x .state))))
+  unfolding endEntityChecked
+  acknowledged k = rw k
+
+  pub reported : m .kind ≡ 23 → Answers (enrolmentMoved (inState x (broken (x .state))))
+  unfolding endEntityChecked
+  reported k = rw k
+
+  module _ (no-pkiconf : m .kind ≡ 19 → ⊥) (no-error : m .kind ≡ 23 → ⊥) where
+    pub failed : statusOr0 (m .status) ≡ 2 → Answers (enrolmentMoved (inState x Failed))
     unfolding endEntityChecked
-    acknowledged k = rw (passes-all, k)
+    failed s = rw (ne-eqb (m .kind) 19 no-pkiconf, ne-eqb (m .kind) 23 no-error, s)
 
-    pub reported : m .kind ≡ 23 → Answers (enrolmentMoved (inState x (broken (x .state))))
+    pub confirmed : (statusOr0 (m .status) ≡ 2 → ⊥) → Answers (confirming x (d .accept) (d .hash) (d .nonce) (asNonce (m .senderNonce)))
     unfolding endEntityChecked
-    reported k = rw (passes-all, k)
-
-    module _ (no-pkiconf : m .kind ≡ 19 → ⊥) (no-error : m .kind ≡ 23 → ⊥) where
-      pub failed : statusOr0 (m .status) ≡ 2 → Answers (enrolmentMoved (inState x Failed))
-      unfolding endEntityChecked
-      failed s = rw (passes-all, ne-eqb (m .kind) 19 no-pkiconf, ne-eqb (m .kind) 23 no-error, s)
-
-      pub confirmed : (statusOr0 (m .status) ≡ 2 → ⊥) → Answers (confirming x (d .accept) (d .hash) (d .nonce) (asNonce (m .senderNonce)))
-      unfolding endEntityChecked
-      confirmed s = rw (passes-all, ne-eqb (m .kind) 19 no-pkiconf, ne-eqb (m .kind) 23 no-error, ne-eqb (statusOr0 (m .status)) 2 s)
+    confirmed s = rw (ne-eqb (m .kind) 19 no-pkiconf, ne-eqb (m .kind) 23 no-error, ne-eqb (statusOr0 (m .status)) 2 s)
 
 -- ## The response's nonce
 

@@ -30,8 +30,9 @@ use protocol::Outcome;
 use protocol::TransactionId;
 use protocol::kinds::is_enrolment_kind;
 ghost use mathlib.Core.Path.{_≡_};
-ghost use Rattle.protocol.specs.Message.{fieldsOf};
-ghost use Rattle.protocol.specs.Refusals.{check};
+ghost use Rattle.protocol.specs.Bytes.{asNonce};
+ghost use Rattle.protocol.specs.Message.{Fields, fieldsOf, statusOr0};
+ghost use Rattle.protocol.specs.Refusals.{pass, check};
 ghost use Rattle.protocol.specs.EndEntityRows.{endEntityRows};
 ghost use Rattle.protocol.specs.EndEntity.{endEntityStart, afterRefusal, endEntityChecked, endEntityMessage, endEntityTimeOut};
 
@@ -58,6 +59,29 @@ fn after_refusal(number: u8, bytes: &[u8], m: Message, enrolment: Enrolment) -> 
     enrolment
 }
 
+// A message that no row refuses: of any with this kind, status and senderNonce.
+fn taken(
+    enrolment: Enrolment,
+    input: EndEntityInput,
+    kind: u8,
+    status: u32,
+    answered: Nonce,
+) -> EndEntityAnswer
+    ensures { λ r. ⌜ ((m : Fields) → m .kind ≡ kind → statusOr0 (m .status) ≡ status → asNonce (m .senderNonce) ≡ answered → r ≡ endEntityChecked pass enrolment input m) ⌝ }
+{
+    let state = enrolment.state;
+    if kind == 19 {
+        return moved(enrolment, assured_state(state));
+    }
+    if kind == 23 {
+        return moved(enrolment, broken_state(state));
+    }
+    if status == 2 {
+        return moved(enrolment, EnrolmentState::Failed);
+    }
+    confirm(enrolment, input, answered)
+}
+
 // A message that reads: refused by the table's lowest row, or taken.
 fn checked(enrolment: Enrolment, bytes: &[u8], m: Message, input: EndEntityInput) -> EndEntityAnswer
     ensures { λ r. ⌜ r ≡ endEntityChecked (check (endEntityRows enrolment (input .good) (fieldsOf (now (bytes .entry)) m))) enrolment input (fieldsOf (now (bytes .entry)) m) ⌝ }
@@ -66,21 +90,17 @@ fn checked(enrolment: Enrolment, bytes: &[u8], m: Message, input: EndEntityInput
     if number != 0 {
         return refused(number, after_refusal(number, bytes, m, enrolment));
     }
-    let state = enrolment.state;
     let fields = m.fields;
     let contents = m.contents;
     let entry = contents.entry;
-    let kind = contents.kind;
-    if kind == 19 {
-        return moved(enrolment, assured_state(state));
-    }
-    if kind == 23 {
-        return moved(enrolment, broken_state(state));
-    }
-    if status_or_0(entry) == 2 {
-        return moved(enrolment, EnrolmentState::Failed);
-    }
-    confirm(enrolment, input, nonce_of(bytes, fields.sender_nonce))
+    let answered = nonce_of(bytes, fields.sender_nonce);
+    taken(
+        enrolment,
+        input,
+        contents.kind,
+        status_or_0(entry),
+        answered,
+    )
 }
 
 // A message, with what the host says of it.
