@@ -48,8 +48,9 @@ pub fn unread(enrolment: Enrolment, fault: Fault) -> EndEntityAnswer
     ensures { λ r. ⌜ r ≡ enrolmentUnread fault enrolment ⌝ }
 {
     let number = read_refusal(fault);
+    let bit = bit_of(number, false);
     EndEntityAnswer {
-        outcome: Outcome::Refused(number, bit_of(number, false)),
+        outcome: Outcome::Refused(number, bit),
         fault,
         sends: false,
         outgoing: Outgoing::silent(),

@@ -58,20 +58,16 @@ fn other_answer(kind: u8, request: u8) -> bool
 fn other_id(message: &[u8], span: Span, id: TransactionId) -> bool
     ensures { λ r. ⌜ r ≡ not (isId (optionalPart (now (message .entry)) span) id) ⌝ }
 {
-    if is_id(message, span, id) {
-        return false;
-    }
-    true
+    let own = is_id(message, span, id);
+    if own { false } else { true }
 }
 
 // 14
 fn other_nonce(message: &[u8], span: Span, last: Nonce) -> bool
     ensures { λ r. ⌜ r ≡ not (isNonce (optionalPart (now (message .entry)) span) last) ⌝ }
 {
-    if is_nonce(message, span, last) {
-        return false;
-    }
-    true
+    let answers = is_nonce(message, span, last);
+    if answers { false } else { true }
 }
 
 // 15
@@ -121,10 +117,7 @@ fn bad_status(kind: u8, entries: usize, status: u32) -> bool
     if bad_response_status(kind, entries, status) {
         return true;
     }
-    if kind == 23 {
-        return status != 2;
-    }
-    false
+    if kind == 23 { status != 2 } else { false }
 }
 
 // 20
