@@ -15,6 +15,7 @@ use protocol::Nonce;
 use protocol::Outcome;
 use protocol::Outgoing;
 use protocol::TransactionId;
+use protocol::TransactionTable;
 ghost use mathlib.Core.Path.{_≡_};
 ghost use Rattle.protocol.specs.Refusals.{noFault};
 ghost use Rattle.protocol.specs.Outgoing.{requestOut, certConfOut};
@@ -101,7 +102,9 @@ pub fn no_enrolment() -> Enrolment
     ensures { λ r. ⌜ r ≡ noEnrolment ⌝ }
 {
     Enrolment {
-        id: TransactionId { bytes: [0u8; 16] },
+        id: TransactionId {
+            bytes: [0u8; TransactionTable::ID_BYTES],
+        },
         kind: 0,
         last: Nonce { bytes: [0u8; 16] },
         taken: Nonce { bytes: [0u8; 16] },

@@ -11,6 +11,8 @@ use crate::answers::refused;
 use crate::answers::request_out;
 use crate::answers::started;
 use crate::answers::unread;
+use crate::rows::ERROR;
+use crate::rows::PKI_CONF;
 use crate::rows::refusal;
 use crate::states::assured_state;
 use crate::states::broken_state;
@@ -70,10 +72,10 @@ fn taken(
     ensures { λ r. ⌜ ((m : Fields) → m .kind ≡ kind → statusOr0 (m .status) ≡ status → asNonce (m .senderNonce) ≡ answered → r ≡ endEntityChecked pass enrolment input m) ⌝ }
 {
     let state = enrolment.state;
-    if kind == 19 {
+    if kind == PKI_CONF {
         return moved(enrolment, assured_state(state));
     }
-    if kind == 23 {
+    if kind == ERROR {
         return moved(enrolment, broken_state(state));
     }
     if status == 2 {

@@ -25,6 +25,11 @@ ghost use Rattle.protocol.specs.Refusals.{check};
 ghost use Rattle.protocol.specs.EndEntityRows.{endEntityRows};
 ghost use Rattle.incoming.specs.Incoming.{numberOf};
 
+// The kinds that are no response.
+pub const PKI_CONF: u8 = 19;
+
+pub const ERROR: u8 = 23;
+
 // ip, cp, kup
 fn is_response(kind: u8) -> bool
     ensures { λ r. ⌜ r ≡ isResponse kind ⌝ }
@@ -42,10 +47,10 @@ fn is_response(kind: u8) -> bool
 fn other_answer(kind: u8, request: u8) -> bool
     ensures { λ r. ⌜ r ≡ not (eqb kind pkiConf || eqb kind errorKind || eqb kind (responseTo request)) ⌝ }
 {
-    if kind == 19 {
+    if kind == PKI_CONF {
         return false;
     }
-    if kind == 23 {
+    if kind == ERROR {
         return false;
     }
     if kind == response_to(request) {
@@ -117,20 +122,20 @@ fn bad_status(kind: u8, entries: usize, status: u32) -> bool
     if bad_response_status(kind, entries, status) {
         return true;
     }
-    if kind == 23 { status != 2 } else { false }
+    if kind == ERROR { status != 2 } else { false }
 }
 
 // 20
 fn not_awaited(kind: u8, state: EnrolmentState) -> bool
     ensures { λ r. ⌜ r ≡ (isResponse kind && not (isWaiting state) || eqb kind pkiConf && not (isConfirming state) || eqb kind errorKind && not (isWaiting state || isConfirming state)) ⌝ }
 {
-    if kind == 19 {
+    if kind == PKI_CONF {
         if is_confirming(state) {
             return false;
         }
         return true;
     }
-    if kind == 23 {
+    if kind == ERROR {
         if is_awaiting(state) {
             return false;
         }
