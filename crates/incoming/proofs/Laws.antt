@@ -8,7 +8,13 @@ use native.Mathlib.Omega.{arith}
 use lib.ListN.{length, take, drop, getD, set, drop-of-length-le, length-drop}
 use lib.Seq.{take-nil, take-all, take-suc, take-suc-set}
 use lib.Dec.{eqb}
-use Rattle.protocol.specs.Bytes.{sameBytes}
+use mathlib.Core.Option.{none, some}
+use Rattle.grammar.specs.declared.Span.{Span}
+use Rattle.protocol.specs.Bytes.{sameBytes, bytesOf}
+use Rattle.protocol.specs.Message.{isPresent, partOf, optionalPart}
+use Rattle.protocol.specs.Refusals.{notSixteen}
+use Rattle.protocol.proofs.Tests.{true-false, not-false}
+use Rattle.incoming.specs.Incoming.{sixteenOf}
 
 -- ## Parts
 
@@ -43,6 +49,14 @@ other-length (x ∷ xs) (y ∷ ys) d = either (eqb x y) (other-length xs ys (λ 
     either : (t : Bool) → sameBytes xs ys ≡ false → (t && sameBytes xs ys) ≡ false
     either true e = e
     either false e = refl
+
+-- a part that is there and has sixteen bytes is copied as it is
+copy-by : (b : Bool) (p : List ℕ) → notSixteen (cond b (some p) none) ≡ false → sixteenOf p ≡ bytesOf (cond b (some p) none)
+copy-by true p e = rw (not-false (eqb (length p) 16) e)
+copy-by false p e = true-false e
+
+pub copy-is : (bytes : List ℕ) (s : Span) → notSixteen (optionalPart bytes s) ≡ false → sixteenOf (partOf bytes s) ≡ bytesOf (optionalPart bytes s)
+copy-is bytes s e = copy-by (isPresent s) (partOf bytes s) e
 
 -- ## A test that decides nothing
 

@@ -54,3 +54,7 @@ pub passes-all : (rs : List Row) → allPositive rs ≡ true → 0 ≡ numberOf 
 unfolding check allPositive
 passes-all [] p e = refl
 passes-all (r ∷ rs) p e = passes-at (r .number) (check rs) (ltb 0 (r .number)) (allPositive rs) refl p (λ q. passes-all rs q) (r .applies) e
+
+-- where a row of the first group applies, its number is that of both groups
+pub stops-early : (rs qs : List Row) (k : ℕ) → k ≡ numberOf (check rs) → (k ≡ 0 → ⊥) → k ≡ numberOf (check (rs ++ qs))
+stops-early rs qs k e d = rw (check-append rs qs, stops-at (check rs) k e d)

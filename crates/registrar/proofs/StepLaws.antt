@@ -38,6 +38,7 @@ use Rattle.protocol.proofs.Tests.{true-false, passes}
 use Rattle.protocol.specs.Promises.{Applies}
 use Rattle.protocol.proofs.Rows.{least, stops}
 use Rattle.incoming.specs.Incoming.{sixteenOf, numberOf, faultOf}
+use Rattle.incoming.proofs.Laws.{copy-is}
 use Rattle.incoming.proofs.RowLaws.{check-append, orElse, stops-at, passes-all, allPositive}
 use Rattle.registrar.specs.Steps.{heldAt, withAt, laterRows, foundBy, refusal, confirmation, repeated, Copied}
 use Rattle.registrar.proofs.SlotLaws.{free-set, slot-set, getD-past}
@@ -105,18 +106,6 @@ module _ (t : TransactionTable) (d : RegistrarInput) (m : Fields) (i : Transacti
     later-opened z y = rw (passes-it z, tells k ek .found, y)
 
 -- ## The first five rows
-
--- a copy of sixteen bytes is the part's own where the part has sixteen
-copy-is : (bytes : List ℕ) (s : Span) → notSixteen (optionalPart bytes s) ≡ false → sixteenOf (partOf bytes s) ≡ bytesOf (optionalPart bytes s)
-copy-is bytes s = by (isPresent s)
-  where
-    whole : (x : List ℕ) (b : Bool) → not b ≡ false → cond b x (zeros 16) ≡ x
-    whole x true z = refl
-    whole x false z = true-false z
-
-    by : (b : Bool) → notSixteen (cond b (some (partOf bytes s)) none) ≡ false → sixteenOf (partOf bytes s) ≡ bytesOf (cond b (some (partOf bytes s)) none)
-    by true z = whole (partOf bytes s) (eqb (length (partOf bytes s)) 16) z
-    by false z = true-false z
 
 -- only row 20's bit goes by the state
 bit-plain : (n : ℕ) (c : Bool) → n < 20 → bitOf n false ≡ bitOf n c

@@ -1,0 +1,192 @@
+// The end entity's answers, and the messages that it sends.
+use crate::states::decided_state;
+use crate::states::decision_status;
+use grammar::Offset;
+use incoming::rows::bit_of;
+use incoming::rows::read_refusal;
+use message::Fault;
+use protocol::EndEntityAnswer;
+use protocol::EndEntityInput;
+use protocol::Enrolment;
+use protocol::EnrolmentState;
+use protocol::FailureInfo;
+use protocol::Hash;
+use protocol::Nonce;
+use protocol::Outcome;
+use protocol::Outgoing;
+use protocol::TransactionId;
+use protocol::TransactionTable;
+ghost use mathlib.Core.Path.{_≡_};
+ghost use Rattle.protocol.specs.Refusals.{noFault};
+ghost use Rattle.protocol.specs.Outgoing.{requestOut, certConfOut};
+ghost use Rattle.protocol.specs.EndEntity.{enrolmentRefused, enrolmentUnread, enrolmentMoved, inState, startedEnrolment, noEnrolment, confirmedEnrolment, confirming};
+
+pub fn no_fault() -> Fault
+    ensures { λ r. ⌜ r ≡ noFault ⌝ }
+{
+    Fault {
+        number: 0,
+        at: Offset(0),
+        rule: 0,
+    }
+}
+
+// Refused, with nothing to send.
+pub fn refused(number: u8, enrolment: Enrolment) -> EndEntityAnswer
+    ensures { λ r. ⌜ r ≡ enrolmentRefused number enrolment ⌝ }
+{
+    EndEntityAnswer {
+        outcome: Outcome::Refused(number, bit_of(number, false)),
+        fault: no_fault(),
+        sends: false,
+        outgoing: Outgoing::silent(),
+        enrolment,
+    }
+}
+
+// The bytes do not read.
+pub fn unread(enrolment: Enrolment, fault: Fault) -> EndEntityAnswer
+    ensures { λ r. ⌜ r ≡ enrolmentUnread fault enrolment ⌝ }
+{
+    let number = read_refusal(fault);
+    let bit = bit_of(number, false);
+    EndEntityAnswer {
+        outcome: Outcome::Refused(number, bit),
+        fault,
+        sends: false,
+        outgoing: Outgoing::silent(),
+        enrolment,
+    }
+}
+
+// The enrolment is in another state, and nothing is sent.
+pub fn moved(enrolment: Enrolment, state: EnrolmentState) -> EndEntityAnswer
+    ensures { λ r. ⌜ r ≡ enrolmentMoved (inState enrolment state) ⌝ }
+{
+    let id = enrolment.id;
+    let last = enrolment.last;
+    let taken = enrolment.taken;
+    let hash = enrolment.hash;
+    EndEntityAnswer {
+        outcome: Outcome::Done,
+        fault: no_fault(),
+        sends: false,
+        outgoing: Outgoing::silent(),
+        enrolment: Enrolment {
+            id,
+            kind: enrolment.kind,
+            last,
+            taken,
+            hash,
+            state,
+        },
+    }
+}
+
+// The enrolment of a start that is not refused.
+pub fn started(kind: u8, id: TransactionId, nonce: Nonce) -> Enrolment
+    ensures { λ r. ⌜ r ≡ startedEnrolment kind id nonce ⌝ }
+{
+    Enrolment {
+        id,
+        kind,
+        last: nonce,
+        taken: Nonce { bytes: [0u8; 16] },
+        hash: Hash { bytes: [0u8; 32] },
+        state: EnrolmentState::Asked,
+    }
+}
+
+// What stands in the answer to a refused start.
+pub fn no_enrolment() -> Enrolment
+    ensures { λ r. ⌜ r ≡ noEnrolment ⌝ }
+{
+    Enrolment {
+        id: TransactionId {
+            bytes: [0u8; TransactionTable::ID_BYTES],
+        },
+        kind: 0,
+        last: Nonce { bytes: [0u8; 16] },
+        taken: Nonce { bytes: [0u8; 16] },
+        hash: Hash { bytes: [0u8; 32] },
+        state: EnrolmentState::Failed,
+    }
+}
+
+// ir, cr, p10cr or kur.
+pub fn request_out(kind: u8, id: TransactionId, nonce: Nonce) -> Outgoing
+    ensures { λ r. ⌜ r ≡ requestOut kind id nonce ⌝ }
+{
+    Outgoing {
+        kind,
+        id,
+        sender_nonce: nonce,
+        has_recip_nonce: false,
+        recip_nonce: Nonce { bytes: [0u8; 16] },
+        has_status: false,
+        status: 0,
+        hash: Hash { bytes: [0u8; 32] },
+        failure: FailureInfo::NoBit,
+    }
+}
+
+// certConf.
+fn cert_conf_out(
+    id: TransactionId,
+    nonce: Nonce,
+    answered: Nonce,
+    status: u32,
+    hash: Hash,
+) -> Outgoing
+    ensures { λ r. ⌜ r ≡ certConfOut id nonce answered status hash ⌝ }
+{
+    Outgoing {
+        kind: 24,
+        id,
+        sender_nonce: nonce,
+        has_recip_nonce: true,
+        recip_nonce: answered,
+        has_status: true,
+        status,
+        hash,
+        failure: FailureInfo::NoBit,
+    }
+}
+
+// The host's hash and nonce, and the nonce of the response, are kept.
+fn confirmed(
+    enrolment: Enrolment,
+    accept: bool,
+    hash: Hash,
+    nonce: Nonce,
+    answered: Nonce,
+) -> Enrolment
+    ensures { λ r. ⌜ r ≡ confirmedEnrolment enrolment accept hash nonce answered ⌝ }
+{
+    let id = enrolment.id;
+    Enrolment {
+        id,
+        kind: enrolment.kind,
+        last: nonce,
+        taken: answered,
+        hash,
+        state: decided_state(accept),
+    }
+}
+
+// The certificate is accepted or not, and the certConf that says so is sent.
+pub fn confirm(enrolment: Enrolment, input: EndEntityInput, answered: Nonce) -> EndEntityAnswer
+    ensures { λ r. ⌜ r ≡ confirming enrolment (input .accept) (input .hash) (input .nonce) answered ⌝ }
+{
+    let id = enrolment.id;
+    let hash = input.hash;
+    let nonce = input.nonce;
+    let accept = input.accept;
+    EndEntityAnswer {
+        outcome: Outcome::Done,
+        fault: no_fault(),
+        sends: true,
+        outgoing: cert_conf_out(id, nonce, answered, decision_status(accept), hash),
+        enrolment: confirmed(enrolment, accept, hash, nonce, answered),
+    }
+}

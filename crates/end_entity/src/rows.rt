@@ -1,0 +1,209 @@
+// The rows of 01's table for a message at an end entity, in the table's order; rows 3 to 7 are those of both ends.
+use crate::states::is_awaiting;
+use crate::states::is_confirming;
+use crate::states::is_waiting;
+use grammar::Message;
+use grammar::Span;
+use incoming::parts::is_id;
+use incoming::parts::is_nonce;
+use incoming::parts::is_present;
+use incoming::rows::head_refusal;
+use incoming::rows::status_or_0;
+use protocol::Enrolment;
+use protocol::EnrolmentState;
+use protocol::Nonce;
+use protocol::TransactionId;
+use protocol::kinds::request_number;
+use protocol::kinds::response_to;
+ghost use mathlib.Core.Path.{_≡_};
+ghost use mathlib.Core.Bool.{not, _&&_, _||_};
+ghost use lib.Dec.{eqb};
+ghost use Rattle.protocol.specs.Bytes.{isId, isNonce};
+ghost use Rattle.protocol.specs.Message.{isResponse, pkiConf, errorKind, responseTo, requestNumber, isPresent, optionalPart, fieldsOf};
+ghost use Rattle.protocol.specs.States.{isWaiting, isConfirming};
+ghost use Rattle.protocol.specs.Refusals.{check};
+ghost use Rattle.protocol.specs.EndEntityRows.{endEntityRows};
+ghost use Rattle.incoming.specs.Incoming.{numberOf};
+
+// The kinds that are no response.
+pub const PKI_CONF: u8 = 19;
+
+pub const ERROR: u8 = 23;
+
+// ip, cp, kup
+fn is_response(kind: u8) -> bool
+    ensures { λ r. ⌜ r ≡ isResponse kind ⌝ }
+{
+    if kind == 1 {
+        return true;
+    }
+    if kind == 3 {
+        return true;
+    }
+    kind == 8
+}
+
+// 8
+fn other_answer(kind: u8, request: u8) -> bool
+    ensures { λ r. ⌜ r ≡ not (eqb kind pkiConf || eqb kind errorKind || eqb kind (responseTo request)) ⌝ }
+{
+    if kind == PKI_CONF {
+        return false;
+    }
+    if kind == ERROR {
+        return false;
+    }
+    if kind == response_to(request) {
+        return false;
+    }
+    true
+}
+
+// 12
+fn other_id(message: &[u8], span: Span, id: TransactionId) -> bool
+    ensures { λ r. ⌜ r ≡ not (isId (optionalPart (now (message .entry)) span) id) ⌝ }
+{
+    let own = is_id(message, span, id);
+    if own { false } else { true }
+}
+
+// 14
+fn other_nonce(message: &[u8], span: Span, last: Nonce) -> bool
+    ensures { λ r. ⌜ r ≡ not (isNonce (optionalPart (now (message .entry)) span) last) ⌝ }
+{
+    let answers = is_nonce(message, span, last);
+    if answers { false } else { true }
+}
+
+// 15
+fn not_one_response(kind: u8, entries: usize) -> bool
+    ensures { λ r. ⌜ r ≡ (isResponse kind && not (eqb entries 1)) ⌝ }
+{
+    if is_response(kind) {
+        return entries != 1;
+    }
+    false
+}
+
+// 16
+fn other_number(kind: u8, entries: usize, number: u32, request: u8) -> bool
+    ensures { λ r. ⌜ r ≡ (isResponse kind && eqb entries 1 && not (eqb number (requestNumber request))) ⌝ }
+{
+    if is_response(kind) {
+        if entries == 1 {
+            return number != request_number(request);
+        }
+    }
+    false
+}
+
+// 18, of the one response
+fn bad_response_status(kind: u8, entries: usize, status: u32) -> bool
+    ensures { λ r. ⌜ r ≡ (isResponse kind && eqb entries 1 && not (eqb status 0 || eqb status 1 || eqb status 2)) ⌝ }
+{
+    if is_response(kind) {
+        if entries == 1 {
+            if status == 0 {
+                return false;
+            }
+            if status == 1 {
+                return false;
+            }
+            return status != 2;
+        }
+    }
+    false
+}
+
+// 18
+fn bad_status(kind: u8, entries: usize, status: u32) -> bool
+    ensures { λ r. ⌜ r ≡ (isResponse kind && eqb entries 1 && not (eqb status 0 || eqb status 1 || eqb status 2) || eqb kind errorKind && not (eqb status 2)) ⌝ }
+{
+    if bad_response_status(kind, entries, status) {
+        return true;
+    }
+    if kind == ERROR { status != 2 } else { false }
+}
+
+// 20
+fn not_awaited(kind: u8, state: EnrolmentState) -> bool
+    ensures { λ r. ⌜ r ≡ (isResponse kind && not (isWaiting state) || eqb kind pkiConf && not (isConfirming state) || eqb kind errorKind && not (isWaiting state || isConfirming state)) ⌝ }
+{
+    if kind == PKI_CONF {
+        if is_confirming(state) {
+            return false;
+        }
+        return true;
+    }
+    if kind == ERROR {
+        if is_awaiting(state) {
+            return false;
+        }
+        return true;
+    }
+    if is_response(kind) {
+        if is_waiting(state) {
+            return false;
+        }
+        return true;
+    }
+    false
+}
+
+// 21
+fn no_certificate(kind: u8, status: u32, certificate: Span) -> bool
+    ensures { λ r. ⌜ r ≡ (isResponse kind && not (eqb status 2) && not (isPresent certificate)) ⌝ }
+{
+    if is_response(kind) {
+        if status == 2 {
+            return false;
+        }
+        if is_present(certificate) {
+            return false;
+        }
+        return true;
+    }
+    false
+}
+
+// The lowest row of the table that applies; 0 where none does.
+pub fn refusal(enrolment: Enrolment, message: &[u8], m: Message, good: bool) -> u8
+    ensures { λ r. ⌜ r ≡ numberOf (check (endEntityRows enrolment good (fieldsOf (now (message .entry)) m))) ⌝ }
+{
+    let state = enrolment.state;
+    let fields = m.fields;
+    let contents = m.contents;
+    let entry = contents.entry;
+    let kind = contents.kind;
+    let entries = contents.entries;
+    let status = status_or_0(entry);
+    let head = head_refusal(message, m, good);
+    if head != 0 {
+        return head;
+    }
+    if other_answer(kind, enrolment.kind) {
+        return 8;
+    }
+    if other_id(message, fields.transaction_id, enrolment.id) {
+        return 12;
+    }
+    if other_nonce(message, fields.recip_nonce, enrolment.last) {
+        return 14;
+    }
+    if not_one_response(kind, entries) {
+        return 15;
+    }
+    if other_number(kind, entries, entry.number, enrolment.kind) {
+        return 16;
+    }
+    if bad_status(kind, entries, status) {
+        return 18;
+    }
+    if not_awaited(kind, state) {
+        return 20;
+    }
+    if no_certificate(kind, status, entry.certificate) {
+        return 21;
+    }
+    0
+}
