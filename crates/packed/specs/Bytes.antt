@@ -1,0 +1,26 @@
+-- Parts of a byte string, and numbers in bytes, big-endian.
+use Prim.Native.Nat.{ℕ, _+_, _*_, _/_, _%_}
+use mathlib.Core.List.{List, [], _∷_, _++_}
+use mathlib.Core.Path.{_≡_}
+use lib.ListN.{length, take, drop, getD}
+use lib.Seq.{sets}
+
+-- n bytes from an offset
+abbrev pub part : (at n : ℕ) → List ℕ → List ℕ
+part at n s = take n (drop at s)
+
+-- the bytes s with x in place of theirs from an offset
+abbrev pub putAt : (at : ℕ) (x s : List ℕ) → List ℕ
+putAt at x s = sets s at x
+
+-- x is n bytes long, and was put into s, which is now s′
+pub record Placed (at n : ℕ) (x s s′ : List ℕ) : Type 0 where
+  pub is : s′ ≡ putAt at x s
+  pub size : length x ≡ n
+
+-- a 16-bit number, and where it is read
+abbrev pub twoBytes : ℕ → List ℕ
+twoBytes n = n / 256 ∷ n % 256 ∷ []
+
+abbrev pub twoAt : (at : ℕ) → List ℕ → ℕ
+twoAt at s = 256 * getD s at 0 + getD s (at + 1) 0

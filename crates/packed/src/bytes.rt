@@ -1,0 +1,86 @@
+// Parts of lent bytes: read as arrays and numbers, and put in. A caller keeps them inside the bytes.
+ghost use mathlib.Core.Path.{_≡_};
+ghost use mathlib.Core.List.{[], _∷_};
+ghost use Prim.Native.Nat.{_+_, _<_, _≤_};
+ghost use lib.ListN.{length, getD};
+ghost use Rattle.packed.specs.Bytes.{part, Placed, twoAt, twoBytes};
+
+// 16 bytes from an offset.
+pub(crate) fn get_16(bytes: &[u8], at: usize) -> [u8; 16]
+    requires { ⌜ at + 16 ≤ length (now bytes) ⌝ }
+    ensures { λ r. ⌜ r ≡ part at 16 (now (bytes .entry)) ⌝ }
+{
+    let mut x = [0u8; 16];
+    let mut i: usize = 0;
+    while i < 16 {
+        x[i] = bytes[at + i];
+        i += 1;
+    }
+    x
+}
+
+// 32 bytes from an offset.
+pub(crate) fn get_32(bytes: &[u8], at: usize) -> [u8; 32]
+    requires { ⌜ at + 32 ≤ length (now bytes) ⌝ }
+    ensures { λ r. ⌜ r ≡ part at 32 (now (bytes .entry)) ⌝ }
+{
+    let mut x = [0u8; 32];
+    let mut i: usize = 0;
+    while i < 32 {
+        x[i] = bytes[at + i];
+        i += 1;
+    }
+    x
+}
+
+fn wide(x: u8) -> u16
+    ensures { λ r. ⌜ (r ≡ x) × (r < 256) ⌝ }
+{
+    x as u16
+}
+
+// The number in two bytes.
+pub(crate) fn get_2(bytes: &[u8], at: usize) -> u16
+    requires { ⌜ at + 2 ≤ length (now bytes) ⌝ }
+    ensures { λ r. ⌜ r ≡ twoAt at (now (bytes .entry)) ⌝ }
+{
+    256 * wide(bytes[at]) + wide(bytes[at + 1])
+}
+
+// Each says too how long what it put in is: a caller has an array's length from here.
+pub(crate) fn put_16(bytes: &mut [u8], at: usize, x: [u8; 16])
+    requires { ⌜ at + 16 ≤ length (now bytes) ⌝ }
+    ensures { λ _. ⌜ Placed at 16 x (now (bytes .entry)) (now (bytes .exit)) ⌝ }
+{
+    let mut i: usize = 0;
+    while i < 16 {
+        bytes[at + i] = x[i];
+        i += 1;
+    }
+}
+
+pub(crate) fn put_32(bytes: &mut [u8], at: usize, x: [u8; 32])
+    requires { ⌜ at + 32 ≤ length (now bytes) ⌝ }
+    ensures { λ _. ⌜ Placed at 32 x (now (bytes .entry)) (now (bytes .exit)) ⌝ }
+{
+    let mut i: usize = 0;
+    while i < 32 {
+        bytes[at + i] = x[i];
+        i += 1;
+    }
+}
+
+pub(crate) fn put_1(bytes: &mut [u8], at: usize, x: u8)
+    requires { ⌜ at + 1 ≤ length (now bytes) ⌝ }
+    ensures { λ _. ⌜ Placed at 1 (x ∷ []) (now (bytes .entry)) (now (bytes .exit)) ⌝ }
+{
+    bytes[at] = x;
+}
+
+pub(crate) fn put_2(bytes: &mut [u8], at: usize, x: u16)
+    requires { ⌜ at + 2 ≤ length (now bytes) ⌝ }
+    ensures { λ _. ⌜ Placed at 2 (twoBytes x) (now (bytes .entry)) (now (bytes .exit)) ⌝ }
+{
+    bytes[at] = (x / 256) as u8;
+    bytes[at + 1] = (x % 256) as u8;
+}

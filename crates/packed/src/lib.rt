@@ -1,0 +1,3 @@
+// The protocol's state in bytes that the host lends: packed and unpacked, every field in its order, numbers big-endian.
+pub mod bytes;
+pub mod table;
