@@ -1,10 +1,10 @@
 // The transaction table in lent bytes.
-use crate::bytes::get_16;
 use crate::bytes::get_2;
+use crate::bytes::get_16;
 use crate::bytes::get_32;
 use crate::bytes::put_1;
-use crate::bytes::put_16;
 use crate::bytes::put_2;
+use crate::bytes::put_16;
 use crate::bytes::put_32;
 use protocol::Board;
 use protocol::Hash;
@@ -98,4 +98,86 @@ fn put_transaction(bytes: &mut [u8], at: usize, t: Transaction)
     put_16(bytes, at + 35, sent);
     put_32(bytes, at + 51, hash);
     put_1(bytes, at + 83, state_number(state));
+}
+
+// Whether each state byte is a state.
+fn states_good(bytes: &[u8]) -> bool
+    requires { ⌜ tableBytes ≤ length (now bytes) ⌝ }
+    ensures { λ r. ⌜ r ≡ statesGood capacity (now (bytes .entry)) ⌝ }
+{
+    let mut i: usize = 0;
+    let mut at: usize = 0;
+    while i < TransactionTable::CAPACITY {
+        if bytes[at + 83] >= 7 {
+            return false;
+        }
+        i += 1;
+        at += TRANSACTION_BYTES;
+    }
+    true
+}
+
+fn get_table(bytes: &[u8]) -> TransactionTable
+    requires { ⌜ tableBytes ≤ length (now bytes) ⌝ }
+    ensures { λ r. ⌜ r ≡ tableOf (now (bytes .entry)) ⌝ }
+{
+    let empty = TransactionTable::empty();
+    let mut rows = empty.transactions;
+    let mut i: usize = 0;
+    let mut at: usize = 0;
+    while i < TransactionTable::CAPACITY {
+        rows[i] = get_transaction(bytes, at);
+        i += 1;
+        at += TRANSACTION_BYTES;
+    }
+    TransactionTable { transactions: rows }
+}
+
+fn no_table() -> UnpackedTable
+    ensures { λ r. ⌜ r ≡ noTable ⌝ }
+{
+    let table = TransactionTable::empty();
+    UnpackedTable { ok: false, table }
+}
+
+// The table that `bytes` holds, where they are exactly as long as one and every state byte is a state.
+pub fn unpack_table(bytes: &[u8]) -> UnpackedTable
+    ensures { λ r. ⌜ r ≡ unpackTable (now (bytes .entry)) ⌝ }
+{
+    if bytes.len() == TABLE_BYTES {
+        if states_good(bytes) {
+            let table = get_table(bytes);
+            UnpackedTable { ok: true, table }
+        } else {
+            no_table()
+        }
+    } else {
+        no_table()
+    }
+}
+
+fn put_rows(bytes: &mut [u8], rows: [Transaction; TransactionTable::CAPACITY])
+    requires { ⌜ tableBytes ≤ length (now bytes) ⌝ }
+    ensures { λ _. ⌜ Placed 0 tableBytes (packRows rows) (now (bytes .entry)) (now (bytes .exit)) ⌝ }
+{
+    let mut i: usize = 0;
+    let mut at: usize = 0;
+    while i < TransactionTable::CAPACITY {
+        put_transaction(bytes, at, rows[i]);
+        i += 1;
+        at += TRANSACTION_BYTES;
+    }
+}
+
+// The table as bytes. False, with nothing changed, where `bytes` is not exactly as long as one.
+pub fn pack_table(bytes: &mut [u8], table: TransactionTable) -> bool
+    ensures { λ r. ⌜ (r ≡ eqb (length (now (bytes .entry))) tableBytes) × (now (bytes .exit) ≡ packTableIn table (now (bytes .entry))) ⌝ }
+{
+    if bytes.len() == TABLE_BYTES {
+        let rows = table.transactions;
+        put_rows(bytes, rows);
+        true
+    } else {
+        false
+    }
 }

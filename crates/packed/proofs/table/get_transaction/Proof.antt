@@ -28,6 +28,6 @@ get-transaction-spec =
     (λ c. search needs)
     (λ c κs. search needs)
     (λ c.
-      let s : List ℕ = c .before .before .before .before .before .before .before .before .before .args .bytes .now in
-      let at : ℕ = c .before .before .before .before .before .before .before .before .before .args .at in
-      cc (part-drop at 19 16 s, part-drop at 35 16 s, part-drop at 51 32 s, two-drop at 16 s, getD-drop at s 18 0, getD-drop at s 83 0)))
+    let s : List ℕ = c .before .before .before .before .before .before .before .before .before .args .bytes .now in
+    let at : ℕ = c .before .before .before .before .before .before .before .before .before .args .at in
+    cc (part-drop at 19 16 s, part-drop at 35 16 s, part-drop at 51 32 s, two-drop at 16 s, getD-drop at s 18 0, getD-drop at s 83 0)))

@@ -28,10 +28,10 @@ put-transaction-spec =
     (λ c κs. search needs)
     (λ c. search needs)
     (λ c.
-      next (c .before .before .before .before .before .before .before .before .before .before .before .before .before .before .before .before .before .before .before .before .before .before .before .before .before .before .before .put-16 .ensures) (omega arith) (
-      next (c .before .before .before .before .before .before .before .before .before .before .before .before .before .before .before .before .before .before .before .before .before .before .before .put-2 .ensures) (omega arith) (
-      next (c .before .before .before .before .before .before .before .before .before .before .before .before .before .before .before .before .before .before .before .put-1 .ensures) (omega arith) (
-      next (c .before .before .before .before .before .before .before .before .before .before .before .before .before .before .before .put-162 .ensures) (omega arith) (
-      next (c .before .before .before .before .before .before .before .before .before .before .before .put-163 .ensures) (omega arith) (
-      next (c .before .before .before .before .before .before .before .put-32 .ensures) (omega arith) (
-      rw (c .before .before .before .state-number .ensures) at (c .before .before .put-12 .ensures)))))))))
+    next (c .before .before .before .before .before .before .before .before .before .before .before .before .before .before .before .before .before .before .before .before .before .before .before .before .before .before .before .put-16 .ensures) (omega arith) (
+    next (c .before .before .before .before .before .before .before .before .before .before .before .before .before .before .before .before .before .before .before .before .before .before .before .put-2 .ensures) (omega arith) (
+    next (c .before .before .before .before .before .before .before .before .before .before .before .before .before .before .before .before .before .before .before .put-1 .ensures) (omega arith) (
+    next (c .before .before .before .before .before .before .before .before .before .before .before .before .before .before .before .put-162 .ensures) (omega arith) (
+    next (c .before .before .before .before .before .before .before .before .before .before .before .put-163 .ensures) (omega arith) (
+    next (c .before .before .before .before .before .before .before .put-32 .ensures) (omega arith) (
+    rw (c .before .before .before .state-number .ensures) at (c .before .before .put-12 .ensures)))))))))
