@@ -1,3 +1,4 @@
 // The protocol's state in bytes that the host lends: packed and unpacked, every field in its order, numbers big-endian.
-pub mod bytes;
+mod bytes;
+pub mod enrolment;
 pub mod table;
