@@ -1,5 +1,5 @@
 -- Parts of a byte string, and numbers in bytes, big-endian.
-use Prim.Native.Nat.{ℕ, _+_, _*_, _/_, _%_}
+use Prim.Native.Nat.{ℕ, _+_, _*_, _/_, _%_, _<_}
 use mathlib.Core.List.{List, [], _∷_, _++_}
 use mathlib.Core.Path.{_≡_}
 use lib.ListN.{length, take, drop, getD}
@@ -24,3 +24,7 @@ twoBytes n = n / 256 ∷ n % 256 ∷ []
 
 abbrev pub twoAt : (at : ℕ) → List ℕ → ℕ
 twoAt at s = 256 * getD s at 0 + getD s (at + 1) 0
+
+-- every element is a byte
+abbrev pub AllBytes : List ℕ → Type 0
+AllBytes s = (i : ℕ) → getD s i 0 < 256

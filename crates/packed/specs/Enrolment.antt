@@ -2,6 +2,7 @@
 use Prim.Native.Nat.{ℕ}
 use mathlib.Core.List.{List, [], _∷_, _++_}
 use mathlib.Core.Bool.{true, false, cond}
+use mathlib.Core.Path.{_≡_}
 use lib.ListN.{length, getD}
 use lib.Dec.{eqb, ltb}
 use Rattle.protocol.specs.declared.Enrolment.{Enrolment}
@@ -69,3 +70,10 @@ unpackEnrolment s =
 -- bytes of another length stay as they are
 unfoldable pub packEnrolmentIn : Enrolment → List ℕ → List ℕ
 packEnrolmentIn x s = cond (eqb (length s) enrolmentBytes) (packEnrolment x) s
+
+-- for the theorems: the arrays have their lengths. Numbers need no bound there
+pub record Sized (x : Enrolment) : Type 0 where
+  pub id : length (x .id .bytes) ≡ 16
+  pub last : length (x .last .bytes) ≡ 16
+  pub taken : length (x .taken .bytes) ≡ 16
+  pub hash : length (x .hash .bytes) ≡ 32

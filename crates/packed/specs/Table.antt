@@ -2,6 +2,7 @@
 use Prim.Native.Nat.{ℕ, zero, suc, _*_}
 use mathlib.Core.List.{List, [], _∷_, _++_}
 use mathlib.Core.Bool.{Bool, true, false, cond, _&&_}
+use mathlib.Core.Path.{_≡_}
 use lib.ListN.{length, drop, getD}
 use lib.Dec.{eqb, ltb}
 use Rattle.protocol.specs.declared.Transaction.{Transaction}
@@ -97,3 +98,19 @@ unpackTable s = cond (eqb (length s) tableBytes) (cond (statesGood capacity s) (
 -- bytes of another length stay as they are
 unfoldable pub packTableIn : TransactionTable → List ℕ → List ℕ
 packTableIn t s = cond (eqb (length s) tableBytes) (packTable t) s
+
+-- ## For the theorems: the arrays have their lengths. Numbers need no bound there
+
+pub record Sized (t : Transaction) : Type 0 where
+  pub id : length (t .id .bytes) ≡ 16
+  pub taken : length (t .taken .bytes) ≡ 16
+  pub sent : length (t .sent .bytes) ≡ 16
+  pub hash : length (t .hash .bytes) ≡ 32
+
+abbrev pub AllSized : List Transaction → Type 0
+AllSized [] = Unit {0}
+AllSized (t ∷ ts) = Sized t × AllSized ts
+
+pub record TableSized (t : TransactionTable) : Type 0 where
+  pub slots : length (t .transactions) ≡ capacity
+  pub each : AllSized (t .transactions)
