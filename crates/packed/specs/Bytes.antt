@@ -1,6 +1,7 @@
 -- Parts of a byte string, and numbers in bytes, big-endian.
 use Prim.Native.Nat.{ℕ, _+_, _*_, _/_, _%_, _<_}
 use mathlib.Core.List.{List, [], _∷_, _++_}
+use mathlib.Core.Bool.{Bool, cond}
 use mathlib.Core.Path.{_≡_}
 use lib.ListN.{length, take, drop, getD}
 use lib.Seq.{sets}
@@ -24,6 +25,14 @@ twoBytes n = n / 256 ∷ n % 256 ∷ []
 
 abbrev pub twoAt : (at : ℕ) → List ℕ → ℕ
 twoAt at s = 256 * getD s at 0 + getD s (at + 1) 0
+
+-- a 32-bit number
+abbrev pub fourBytes : ℕ → List ℕ
+fourBytes n = twoBytes (n / 65536) ++ twoBytes (n % 65536)
+
+-- a Bool
+abbrev pub flag : Bool → ℕ
+flag b = cond b 1 0
 
 -- every element is a byte
 abbrev pub AllBytes : List ℕ → Type 0

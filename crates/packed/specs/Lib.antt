@@ -1,3 +1,5 @@
+pub mod Arrays
 pub mod Bytes
 pub mod Enrolment
+pub mod Outgoing
 pub mod Table

@@ -3,7 +3,7 @@ ghost use mathlib.Core.Path.{_≡_};
 ghost use mathlib.Core.List.{[], _∷_};
 ghost use Prim.Native.Nat.{_+_, _<_, _≤_};
 ghost use lib.ListN.{length, getD};
-ghost use Rattle.packed.specs.Bytes.{part, Placed, twoAt, twoBytes};
+ghost use Rattle.packed.specs.Bytes.{part, Placed, twoAt, twoBytes, fourBytes, flag};
 
 // 16 bytes from an offset.
 pub(crate) fn get_16(bytes: &[u8], at: usize) -> [u8; 16]
@@ -83,4 +83,23 @@ pub(crate) fn put_2(bytes: &mut [u8], at: usize, x: u16)
 {
     bytes[at] = (x / 256) as u8;
     bytes[at + 1] = (x % 256) as u8;
+}
+
+pub(crate) fn put_4(bytes: &mut [u8], at: usize, x: u32)
+    requires { ⌜ at + 4 ≤ length (now bytes) ⌝ }
+    ensures { λ _. ⌜ Placed at 4 (fourBytes x) (now (bytes .entry)) (now (bytes .exit)) ⌝ }
+{
+    put_2(bytes, at, (x / 65536) as u16);
+    put_2(bytes, at + 2, (x % 65536) as u16);
+}
+
+pub(crate) fn put_flag(bytes: &mut [u8], at: usize, b: bool)
+    requires { ⌜ at + 1 ≤ length (now bytes) ⌝ }
+    ensures { λ _. ⌜ Placed at 1 (flag b ∷ []) (now (bytes .entry)) (now (bytes .exit)) ⌝ }
+{
+    if b {
+        put_1(bytes, at, 1);
+    } else {
+        put_1(bytes, at, 0);
+    }
 }
