@@ -1,13 +1,15 @@
 -- Copies as a loop makes them, one element further: into an array from its start, and into lent bytes from an offset.
 use Prim.Native.Nat.{ℕ, suc, _+_, _<_, _≤_}
 use mathlib.Core.List.{List, [], _∷_, _++_, append-nil}
+use mathlib.Core.Bool.{true, false}
 use mathlib.Core.Path.{_≡_, refl, sym, _∙_, ap}
 use native.Mathlib.Numerals.{add-one}
 use native.Mathlib.Nat.{add-zero, suc-add, add-suc, le-of-lt, le-antisymm}
 use native.Mathlib.Omega.{arith}
+use borrow.Author.Tests.{le-leb, lt-leb}
 use lib.ListN.{length, take, drop, set, getD, drop-of-length-le, length-append}
 use lib.Seq.{sets, length-sets, set-at, length-take-le, drop-cons, append-snoc, take-suc, take-all, sets-eq}
-use Rattle.packed.specs.Bytes.{Placed}
+use Rattle.packed.specs.Bytes.{Placed, hasRoom, packAt}
 
 module _ {ℓ} {A : Type ℓ} where
   -- an array z that takes the first elements of s
@@ -74,3 +76,13 @@ pub whole : {n : ℕ} {x s s′ : List ℕ} → Placed 0 n x s s′ → length s
 whole {n} {x} {s} p e =
     let h : length s ≤ 0 + length x = omega (arith, p .size) in
     p .is ∙ sets-eq x s 0 (omega (arith, p .size)) ∙ rw (drop-of-length-le s h) (append-nil x)
+
+-- ## An answer: whether there was room, and the bytes after it
+
+pub no-room : (at n : ℕ) (x s : List ℕ) → length s < at + n → (false ≡ hasRoom at n s) × (s ≡ packAt at n x s)
+unfolding packAt
+no-room at n x s h = (sym (lt-leb _ _ h), rw (lt-leb _ _ h))
+
+pub room : {at n : ℕ} {x s s′ : List ℕ} → at + n ≤ length s → Placed at n x s s′ → (true ≡ hasRoom at n s) × (s′ ≡ packAt at n x s)
+unfolding packAt
+room h p = (sym (le-leb _ _ h), p .is ∙ rw (le-leb _ _ h))

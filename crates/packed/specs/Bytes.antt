@@ -4,6 +4,7 @@ use mathlib.Core.List.{List, [], _∷_, _++_}
 use mathlib.Core.Bool.{Bool, cond}
 use mathlib.Core.Path.{_≡_}
 use lib.ListN.{length, take, drop, getD}
+use lib.Dec.{leb}
 use lib.Seq.{sets}
 
 -- n bytes from an offset
@@ -19,6 +20,14 @@ pub record Placed (at n : ℕ) (x s s′ : List ℕ) : Type 0 where
   pub is : s′ ≡ putAt at x s
   pub size : length x ≡ n
 
+-- there is room for n bytes at an offset
+abbrev pub hasRoom : (at n : ℕ) → List ℕ → Bool
+hasRoom at n s = leb (at + n) (length s)
+
+-- x, of n bytes, put into s; bytes that have no room for it stay as they are
+unfoldable pub packAt : (at n : ℕ) (x s : List ℕ) → List ℕ
+packAt at n x s = cond (hasRoom at n s) (putAt at x s) s
+
 -- a 16-bit number, and where it is read
 abbrev pub twoBytes : ℕ → List ℕ
 twoBytes n = n / 256 ∷ n % 256 ∷ []
@@ -29,6 +38,10 @@ twoAt at s = 256 * getD s at 0 + getD s (at + 1) 0
 -- a 32-bit number
 abbrev pub fourBytes : ℕ → List ℕ
 fourBytes n = twoBytes (n / 65536) ++ twoBytes (n % 65536)
+
+-- a 64-bit number
+abbrev pub eightBytes : ℕ → List ℕ
+eightBytes n = fourBytes (n / 4294967296) ++ fourBytes (n % 4294967296)
 
 -- a Bool
 abbrev pub flag : Bool → ℕ

@@ -1,3 +1,4 @@
+pub mod Answer
 pub mod Arrays
 pub mod Bytes
 pub mod Enrolment

@@ -1,13 +1,10 @@
 -- A message to be sent, in bytes: 88 of them, at an offset of an answer.
-use Prim.Native.Nat.{ℕ, _+_}
+use Prim.Native.Nat.{ℕ}
 use mathlib.Core.List.{List, [], _∷_, _++_}
-use mathlib.Core.Bool.{Bool, cond}
-use lib.ListN.{length}
-use lib.Dec.{leb}
 use Rattle.protocol.specs.declared.FailureInfo.{FailureInfo}
 use Rattle.protocol.specs.declared.FailureInfo.the-variants.{NoBit, Bit}
 use Rattle.protocol.specs.declared.Outgoing.{Outgoing}
-use Rattle.packed.specs.Bytes.{putAt, flag, fourBytes}
+use Rattle.packed.specs.Bytes.{flag, fourBytes}
 
 -- a PKIFailureInfo bit; 255: none
 abbrev pub failureNumber : FailureInfo → ℕ
@@ -36,11 +33,3 @@ packStatus o =
 
 abbrev pub packOutgoing : Outgoing → List ℕ
 packOutgoing o = packNames o ++ packStatus o
-
--- there is room for it at the offset
-abbrev pub hasRoom : (at : ℕ) → List ℕ → Bool
-hasRoom at s = leb (at + outgoingBytes) (length s)
-
--- bytes that have no room for it stay as they are
-unfoldable pub packOutgoingAt : (at : ℕ) → Outgoing → List ℕ → List ℕ
-packOutgoingAt at o s = cond (hasRoom at s) (putAt at (packOutgoing o) s) s

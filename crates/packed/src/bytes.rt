@@ -3,7 +3,7 @@ ghost use mathlib.Core.Path.{_≡_};
 ghost use mathlib.Core.List.{[], _∷_};
 ghost use Prim.Native.Nat.{_+_, _<_, _≤_};
 ghost use lib.ListN.{length, getD};
-ghost use Rattle.packed.specs.Bytes.{part, Placed, twoAt, twoBytes, fourBytes, flag};
+ghost use Rattle.packed.specs.Bytes.{part, Placed, twoAt, twoBytes, fourBytes, eightBytes, flag};
 
 // 16 bytes from an offset.
 pub(crate) fn get_16(bytes: &[u8], at: usize) -> [u8; 16]
@@ -91,6 +91,14 @@ pub(crate) fn put_4(bytes: &mut [u8], at: usize, x: u32)
 {
     put_2(bytes, at, (x / 65536) as u16);
     put_2(bytes, at + 2, (x % 65536) as u16);
+}
+
+pub(crate) fn put_8(bytes: &mut [u8], at: usize, x: u64)
+    requires { ⌜ at + 8 ≤ length (now bytes) ⌝ }
+    ensures { λ _. ⌜ Placed at 8 (eightBytes x) (now (bytes .entry)) (now (bytes .exit)) ⌝ }
+{
+    put_4(bytes, at, (x / 4294967296) as u32);
+    put_4(bytes, at + 4, (x % 4294967296) as u32);
 }
 
 pub(crate) fn put_flag(bytes: &mut [u8], at: usize, b: bool)

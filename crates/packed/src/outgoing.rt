@@ -9,8 +9,8 @@ use protocol::Outgoing;
 ghost use mathlib.Core.Path.{_≡_};
 ghost use Prim.Native.Nat.{_+_, _≤_};
 ghost use lib.ListN.{length};
-ghost use Rattle.packed.specs.Bytes.{Placed};
-ghost use Rattle.packed.specs.Outgoing.{failureNumber, packNames, packStatus, hasRoom, packOutgoingAt};
+ghost use Rattle.packed.specs.Bytes.{Placed, hasRoom, packAt};
+ghost use Rattle.packed.specs.Outgoing.{failureNumber, outgoingBytes, packNames, packStatus, packOutgoing};
 
 pub const OUTGOING_BYTES: usize = 88;
 
@@ -53,7 +53,7 @@ fn put_status(bytes: &mut [u8], at: usize, o: Outgoing)
 
 // The message as bytes from an offset on. False, with nothing changed, where there is no room for it.
 pub fn pack_outgoing(bytes: &mut [u8], at: usize, o: Outgoing) -> bool
-    ensures { λ r. ⌜ (r ≡ hasRoom at (now (bytes .entry))) × (now (bytes .exit) ≡ packOutgoingAt at o (now (bytes .entry))) ⌝ }
+    ensures { λ r. ⌜ (r ≡ hasRoom at outgoingBytes (now (bytes .entry))) × (now (bytes .exit) ≡ packAt at outgoingBytes (packOutgoing o) (now (bytes .entry))) ⌝ }
 {
     if bytes.len() < OUTGOING_BYTES {
         return false;
