@@ -2,7 +2,7 @@
 use Prim.Native.Nat.{ℕ, zero, suc, _+_, _*_, _/_, _%_, _<_, _≤_}
 use mathlib.Core.List.{List, [], _∷_, _++_, append-assoc}
 use mathlib.Core.Bool.{true}
-use mathlib.Core.Path.{_≡_, refl, sym, _∙_, ap}
+use mathlib.Core.Path.{_≡_, refl, _∙_, ap}
 use native.Mathlib.Omega.{arith}
 use borrow.Author.Tests.{lt-ltb, eq-eqb, ltb-true, eqb-true}
 use lib.Dec.{eqb, ltb}
@@ -16,7 +16,7 @@ use Rattle.protocol.specs.declared.TransactionTable.{TransactionTable}
 use Rattle.protocol.specs.Table.{capacity}
 use Rattle.packed.specs.declared.table.UnpackedTable.{UnpackedTable}
 use Rattle.packed.specs.Bytes.{part, twoBytes, AllBytes}
-use Rattle.packed.specs.Table.{stateNumber, stateOf, transactionBytes, packTransaction, transactionOf, tableBytes, packRows, rowsOf, statesGood, packTable, tableOf, unpackTable, Sized, AllSized, TableSized}
+use Rattle.packed.specs.Table.{stateNumber, stateOf, transactionBytes, packTransaction, transactionOf, tableBytes, packRows, rowsOf, statesGood, packTable, unpackTable, Sized, AllSized, TableSized}
 use Rattle.packed.proofs.Tests.{both}
 use Rattle.packed.proofs.Parts.{bytes-drop, skip, skip-at, front, join, one, two}
 
@@ -68,7 +68,7 @@ module _ (t : Transaction) (z : Sized t) (rest : List ℕ) where
   unfolding packTransaction all nonces last
   all-is = simp append-assoc
 
-  -- past the id and the next k bytes
+  -- past the id
   past : (k m : ℕ) → part (16 + k) m all ≡ part k m (twoBytes (t .board .0) ++ t .kind ∷ nonces)
   unfolding all
   past = skip (t .id .bytes) (twoBytes (t .board .0) ++ t .kind ∷ nonces) 16 (z .id)
@@ -126,7 +126,7 @@ module _ (t : Transaction) (z : Sized t) (rest : List ℕ) where
 
 packed-length : (t : Transaction) → Sized t → length (packTransaction t) ≡ transactionBytes
 unfolding packTransaction
-packed-length t z = simp (length-append) (omega (arith, z .id, z .taken, z .sent, z .hash))
+packed-length t z = simp length-append (omega (arith, z .id, z .taken, z .sent, z .hash))
 
 rows-length : (ts : List Transaction) → AllSized ts → length (packRows ts) ≡ length ts * transactionBytes
 unfolding packRows

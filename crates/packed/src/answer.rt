@@ -9,7 +9,7 @@ use protocol::Outcome;
 use protocol::RegistrarAnswer;
 use protocol::Slot;
 ghost use mathlib.Core.Path.{_≡_};
-ghost use Prim.Native.Nat.{_+_, _≤_};
+ghost use Prim.Native.Nat.{_≤_};
 ghost use lib.ListN.{length};
 ghost use Rattle.packed.specs.Bytes.{Placed, hasRoom, packAt};
 ghost use Rattle.packed.specs.Answer.{outcomeNumber, refusalNumber, refusalBit, packOutcome, packFault, slotByte, registrarHeadBytes, packRegistrarHead, endEntityHeadBytes, packEndEntityHead};

@@ -14,12 +14,12 @@ use protocol::TransactionId;
 use protocol::TransactionState;
 use protocol::TransactionTable;
 ghost use mathlib.Core.Path.{_≡_};
-ghost use Prim.Native.Nat.{_+_, _*_, _≤_};
+ghost use Prim.Native.Nat.{_+_, _≤_};
 ghost use lib.Dec.{eqb};
 ghost use lib.ListN.{length, drop};
 ghost use Rattle.protocol.specs.Table.{capacity};
 ghost use Rattle.packed.specs.Bytes.{Placed};
-ghost use Rattle.packed.specs.Table.{stateNumber, stateOf, transactionBytes, packTransaction, transactionOf, tableBytes, packRows, rowsOf, statesGood, tableOf, noTable, unpackTable, packTableIn};
+ghost use Rattle.packed.specs.Table.{stateNumber, stateOf, transactionBytes, packTransaction, transactionOf, tableBytes, packRows, statesGood, tableOf, noTable, unpackTable, packTableIn};
 
 pub const TRANSACTION_BYTES: usize = 84;
 

@@ -1,5 +1,5 @@
 -- The parts are put in one after the other, where there is room.
-use mathlib.Core.Path.{_≡_, refl}
+use mathlib.Core.Path.{refl}
 use native.Mathlib.Omega.{arith}
 use borrow.Author.Needs.{needs}
 use Rattle.packed.specs.Answer.{packRegistrarHead}

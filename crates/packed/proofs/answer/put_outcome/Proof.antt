@@ -1,5 +1,5 @@
 -- The three bytes are put in one after the other.
-use mathlib.Core.Path.{_≡_, refl}
+use mathlib.Core.Path.{refl}
 use borrow.Author.Needs.{needs}
 use Rattle.packed.specs.Answer.{packOutcome}
 use Rattle.packed.proofs.Copies.{next}

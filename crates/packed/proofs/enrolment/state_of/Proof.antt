@@ -1,5 +1,4 @@
 -- The code tests what the definition tests.
-use mathlib.Core.Path.{_≡_}
 use borrow.Author.Tests.{ne-eqb}
 use Rattle.packed.specs.Enrolment.{stateOf}
 use Rattle.packed.proofs.enrolment.state_of.Statement.{statement}

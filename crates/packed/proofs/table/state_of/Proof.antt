@@ -1,5 +1,4 @@
 -- The code tests what the definition tests.
-use mathlib.Core.Path.{_≡_}
 use borrow.Author.Tests.{ne-eqb}
 use Rattle.packed.specs.Table.{stateOf}
 use Rattle.packed.proofs.table.state_of.Statement.{statement}
