@@ -1,0 +1,186 @@
+-- Packing and unpacking a table are inverse to each other.
+use Prim.Native.Nat.{ℕ, zero, suc, _+_, _*_, _/_, _%_, _<_, _≤_}
+use mathlib.Core.List.{List, [], _∷_, _++_, append-assoc}
+use mathlib.Core.Bool.{true}
+use mathlib.Core.Path.{_≡_, refl, _∙_, ap}
+use native.Mathlib.Omega.{arith}
+use borrow.Author.Tests.{lt-ltb, eq-eqb, ltb-true, eqb-true}
+use lib.Dec.{eqb, ltb}
+use lib.ListN.{length, take, drop, getD, length-append, length-drop}
+use lib.Seq.{take-add, take-all, drop-at}
+use Rattle.der.proofs.Auto.{and-left, and-right}
+use Rattle.protocol.specs.declared.Transaction.{Transaction}
+use Rattle.protocol.specs.declared.TransactionState.{TransactionState}
+use Rattle.protocol.specs.declared.TransactionState.the-variants.{Free, Asked, Granted, Confirmed, Declined, Refused, Lapsed}
+use Rattle.protocol.specs.declared.TransactionTable.{TransactionTable}
+use Rattle.protocol.specs.Table.{capacity}
+use Rattle.packed.specs.declared.table.UnpackedTable.{UnpackedTable}
+use Rattle.packed.specs.Bytes.{part, twoBytes, AllBytes}
+use Rattle.packed.specs.Table.{stateNumber, stateOf, transactionBytes, packTransaction, transactionOf, tableBytes, packRows, rowsOf, statesGood, packTable, unpackTable, Sized, AllSized, TableSized}
+use Rattle.packed.proofs.Tests.{both}
+use Rattle.packed.proofs.Parts.{bytes-drop, skip, skip-at, front, join, one, two}
+
+-- ## A state
+
+of-number : (x : TransactionState) → stateOf (stateNumber x) ≡ x
+unfolding stateOf
+of-number Free = refl
+of-number Asked = refl
+of-number Granted = refl
+of-number Confirmed = refl
+of-number Declined = refl
+of-number Refused = refl
+of-number Lapsed = refl
+
+below : (x : TransactionState) → stateNumber x < 7
+below Free = omega arith
+below Asked = omega arith
+below Granted = omega arith
+below Confirmed = omega arith
+below Declined = omega arith
+below Refused = omega arith
+below Lapsed = omega arith
+
+number-of : (n : ℕ) → n < 7 → stateNumber (stateOf n) ≡ n
+unfolding stateOf
+number-of zero h = refl
+number-of (suc zero) h = refl
+number-of (suc (suc zero)) h = refl
+number-of (suc (suc (suc zero))) h = refl
+number-of (suc (suc (suc (suc zero)))) h = refl
+number-of (suc (suc (suc (suc (suc zero))))) h = refl
+number-of (suc (suc (suc (suc (suc (suc zero)))))) h = refl
+number-of (suc (suc (suc (suc (suc (suc (suc n))))))) h = absurd (omega arith)
+
+-- ## Unpacking what was packed
+
+module _ (t : Transaction) (z : Sized t) (rest : List ℕ) where
+  last : List ℕ
+  last = t .hash .bytes ++ stateNumber (t .state) ∷ rest
+
+  nonces : List ℕ
+  nonces = t .taken .bytes ++ (t .sent .bytes ++ last)
+
+  all : List ℕ
+  all = t .id .bytes ++ (twoBytes (t .board .0) ++ t .kind ∷ nonces)
+
+  all-is : packTransaction t ++ rest ≡ all
+  unfolding packTransaction all nonces last
+  all-is = simp append-assoc
+
+  -- past the id
+  past : (k m : ℕ) → part (16 + k) m all ≡ part k m (twoBytes (t .board .0) ++ t .kind ∷ nonces)
+  unfolding all
+  past = skip (t .id .bytes) (twoBytes (t .board .0) ++ t .kind ∷ nonces) 16 (z .id)
+
+  past-at : (k : ℕ) → getD all (16 + k) 0 ≡ getD (twoBytes (t .board .0) ++ t .kind ∷ nonces) k 0
+  unfolding all
+  past-at = skip-at (t .id .bytes) (twoBytes (t .board .0) ++ t .kind ∷ nonces) 16 (z .id)
+
+  id-at : part 0 16 all ≡ t .id .bytes
+  unfolding all
+  id-at = front (t .id .bytes) (twoBytes (t .board .0) ++ t .kind ∷ nonces) 16 (z .id)
+
+  taken-at : part 19 16 all ≡ t .taken .bytes
+  unfolding nonces
+  taken-at = past 3 16 ∙ front (t .taken .bytes) (t .sent .bytes ++ last) 16 (z .taken)
+
+  sent-at : part 35 16 all ≡ t .sent .bytes
+  unfolding nonces
+  sent-at = past 19 16 ∙ skip (t .taken .bytes) (t .sent .bytes ++ last) 16 (z .taken) 0 16 ∙ front (t .sent .bytes) last 16 (z .sent)
+
+  hash-at : part 51 32 all ≡ t .hash .bytes
+  unfolding nonces last
+  hash-at =
+      past 35 32
+      ∙ skip (t .taken .bytes) (t .sent .bytes ++ last) 16 (z .taken) 16 32
+      ∙ skip (t .sent .bytes) last 16 (z .sent) 0 32
+      ∙ front (t .hash .bytes) (stateNumber (t .state) ∷ rest) 32 (z .hash)
+
+  state-at : getD all 83 0 ≡ stateNumber (t .state)
+  unfolding nonces last
+  state-at =
+      past-at 67
+      ∙ skip-at (t .taken .bytes) (t .sent .bytes ++ last) 16 (z .taken) 48
+      ∙ skip-at (t .sent .bytes) last 16 (z .sent) 32
+      ∙ skip-at (t .hash .bytes) (stateNumber (t .state) ∷ rest) 32 (z .hash) 0
+
+  fields : Transaction
+  fields =
+      record {
+        id = record { bytes = t .id .bytes };
+        board = record { 0 = t .board .0 };
+        kind = t .kind;
+        taken = record { bytes = t .taken .bytes };
+        sent = record { bytes = t .sent .bytes };
+        hash = record { bytes = t .hash .bytes };
+        state = t .state;
+      }
+
+  transaction-back : transactionOf (packTransaction t ++ rest) ≡ t
+  unfolding transactionOf fields
+  transaction-back =
+      let board : 256 * (t .board .0 / 256) + t .board .0 % 256 ≡ t .board .0 = omega arith in
+      let each : transactionOf all ≡ fields = cc (id-at, past-at 0, past-at 1, board, past-at 2, taken-at, sent-at, hash-at, state-at, of-number (t .state)) in
+      ap transactionOf all-is ∙ each
+
+packed-length : (t : Transaction) → Sized t → length (packTransaction t) ≡ transactionBytes
+unfolding packTransaction
+packed-length t z = simp length-append (omega (arith, z .id, z .taken, z .sent, z .hash))
+
+rows-length : (ts : List Transaction) → AllSized ts → length (packRows ts) ≡ length ts * transactionBytes
+unfolding packRows
+rows-length [] z = refl
+rows-length (t ∷ ts) z = omega (arith, length-append (packTransaction t) (packRows ts), packed-length t (z .0), rows-length ts (z .1))
+
+rows-back : (ts : List Transaction) → AllSized ts → rowsOf (length ts) (packRows ts) ≡ ts
+unfolding rowsOf packRows
+rows-back [] z = refl
+rows-back (t ∷ ts) z =
+    cc (transaction-back t (z .0) (packRows ts), drop-at (packTransaction t) (packRows ts) transactionBytes (packed-length t (z .0)), rows-back ts (z .1))
+
+states-back : (ts : List Transaction) → AllSized ts → statesGood (length ts) (packRows ts) ≡ true
+unfolding statesGood packRows
+states-back [] z = refl
+states-back (t ∷ ts) z =
+    let state : ltb (getD (packTransaction t ++ packRows ts) 83 0) 7 ≡ true = rw (all-is t (z .0) (packRows ts), state-at t (z .0) (packRows ts)) (lt-ltb _ _ (below (t .state))) in
+    cc (state, drop-at (packTransaction t) (packRows ts) transactionBytes (packed-length t (z .0)), states-back ts (z .1))
+
+pub unpack-packed : (t : TransactionTable) → TableSized t → unpackTable (packTable t) ≡ record { ok = true; table = t }
+unfolding unpackTable
+unpack-packed t z =
+    let size : eqb (length (packTable t)) tableBytes ≡ true = eq-eqb _ _ (rw (z .slots) at (rows-length (t .transactions) (z .each))) in
+    let good : statesGood capacity (packTable t) ≡ true = rw (z .slots) at (states-back (t .transactions) (z .each)) in
+    let rows : rowsOf capacity (packTable t) ≡ t .transactions = rw (z .slots) at (rows-back (t .transactions) (z .each)) in
+    rw (size, good, rows)
+
+-- ## Packing what was unpacked
+
+transaction-again : (s : List ℕ) → AllBytes s → transactionBytes ≤ length s → getD s 83 0 < 7 → packTransaction (transactionOf s) ≡ take transactionBytes s
+unfolding packTransaction transactionOf
+transaction-again s b h n =
+    join s 0 16 68 refl (
+    join s 16 2 66 (two s 16 b (omega arith)) (
+    join s 18 1 65 (one s 18 (omega arith) refl) (
+    join s 19 16 49 refl (
+    join s 35 16 33 refl (
+    join s 51 32 1 refl (
+    one s 83 (omega arith) (number-of (getD s 83 0) n)))))))
+
+rows-again : (n : ℕ) (s : List ℕ) → AllBytes s → n * transactionBytes ≤ length s → statesGood n s ≡ true → packRows (rowsOf n s) ≡ take (n * transactionBytes) s
+unfolding packRows rowsOf statesGood
+rows-again zero s b h g = refl
+rows-again (suc n) s b h g =
+    let first : packTransaction (transactionOf s) ≡ take transactionBytes s = transaction-again s b (omega arith) (ltb-true _ _ (and-left (ltb (getD s 83 0) 7) _ g)) in
+    let others : packRows (rowsOf n (drop transactionBytes s)) ≡ take (n * transactionBytes) (drop transactionBytes s) =
+    rows-again n (drop transactionBytes s) (bytes-drop transactionBytes s b) (omega (arith, length-drop transactionBytes s)) (and-right (ltb (getD s 83 0) 7) _ g)
+    in
+    let size : transactionBytes + n * transactionBytes ≡ suc n * transactionBytes = omega arith in
+    rw (first, others, ← take-add transactionBytes (n * transactionBytes) s, size)
+
+pub pack-unpacked : (s : List ℕ) → AllBytes s → unpackTable s .ok ≡ true → packTable (unpackTable s .table) ≡ s
+unfolding unpackTable
+pack-unpacked s b ok =
+    let tests : (eqb (length s) tableBytes ≡ true) × (statesGood capacity s ≡ true) = both (λ (u : UnpackedTable). u .ok) _ _ refl (eqb (length s) tableBytes) (statesGood capacity s) ok in
+    let size : length s ≡ tableBytes = eqb-true _ _ (tests .0) in
+    rw (tests .0, tests .1) (rows-again capacity s b (omega arith) (tests .1) ∙ take-all tableBytes s (omega arith))

@@ -1,0 +1,6 @@
+pub mod Answer
+pub mod Arrays
+pub mod Bytes
+pub mod Enrolment
+pub mod Outgoing
+pub mod Table

@@ -1,0 +1,103 @@
+// The head of an answer, in lent bytes: what stands before the outgoing message.
+use crate::bytes::put_1;
+use crate::bytes::put_8;
+use crate::bytes::put_flag;
+use crate::outgoing::failure_number;
+use message::Fault;
+use protocol::EndEntityAnswer;
+use protocol::Outcome;
+use protocol::RegistrarAnswer;
+use protocol::Slot;
+ghost use mathlib.Core.Path.{_≡_};
+ghost use Prim.Native.Nat.{_≤_};
+ghost use lib.ListN.{length};
+ghost use Rattle.packed.specs.Bytes.{Placed, hasRoom, packAt};
+ghost use Rattle.packed.specs.Answer.{outcomeNumber, refusalNumber, refusalBit, packOutcome, packFault, slotByte, registrarHeadBytes, packRegistrarHead, endEntityHeadBytes, packEndEntityHead};
+
+pub const REGISTRAR_HEAD_BYTES: usize = 15;
+
+pub const END_ENTITY_HEAD_BYTES: usize = 14;
+
+fn outcome_number(o: Outcome) -> u8
+    ensures { λ r. ⌜ r ≡ outcomeNumber o ⌝ }
+{
+    match o {
+        Outcome::Done => 0,
+        Outcome::Again => 1,
+        Outcome::Refused(_, _) => 2,
+    }
+}
+
+fn refusal_number(o: Outcome) -> u8
+    ensures { λ r. ⌜ r ≡ refusalNumber o ⌝ }
+{
+    match o {
+        Outcome::Done => 0,
+        Outcome::Again => 0,
+        Outcome::Refused(n, _) => n,
+    }
+}
+
+fn refusal_bit(o: Outcome) -> u8
+    ensures { λ r. ⌜ r ≡ refusalBit o ⌝ }
+{
+    match o {
+        Outcome::Done => 255,
+        Outcome::Again => 255,
+        Outcome::Refused(_, f) => failure_number(f),
+    }
+}
+
+fn put_outcome(bytes: &mut [u8], o: Outcome)
+    requires { ⌜ 3 ≤ length (now bytes) ⌝ }
+    ensures { λ _. ⌜ Placed 0 3 (packOutcome o) (now (bytes .entry)) (now (bytes .exit)) ⌝ }
+{
+    put_1(bytes, 0, outcome_number(o));
+    put_1(bytes, 1, refusal_number(o));
+    put_1(bytes, 2, refusal_bit(o));
+}
+
+fn put_fault(bytes: &mut [u8], f: Fault)
+    requires { ⌜ 13 ≤ length (now bytes) ⌝ }
+    ensures { λ _. ⌜ Placed 3 10 (packFault f) (now (bytes .entry)) (now (bytes .exit)) ⌝ }
+{
+    let at = f.at;
+    put_1(bytes, 3, f.number);
+    put_8(bytes, 4, at.0 as u64);
+    put_1(bytes, 12, f.rule);
+}
+
+fn slot_byte(s: Slot) -> u8
+    ensures { λ r. ⌜ r ≡ slotByte (s .0) ⌝ }
+{
+    if s.0 < 255 { s.0 as u8 } else { 255 }
+}
+
+// The head as the first bytes. False, with nothing changed, where there is no room for it.
+pub fn pack_registrar_head(bytes: &mut [u8], a: RegistrarAnswer) -> bool
+    ensures { λ r. ⌜ (r ≡ hasRoom 0 registrarHeadBytes (now (bytes .entry))) × (now (bytes .exit) ≡ packAt 0 registrarHeadBytes (packRegistrarHead a) (now (bytes .entry))) ⌝ }
+{
+    if bytes.len() < REGISTRAR_HEAD_BYTES {
+        return false;
+    }
+    let outcome = a.outcome;
+    put_outcome(bytes, outcome);
+    put_fault(bytes, a.fault);
+    put_1(bytes, 13, slot_byte(a.slot));
+    put_flag(bytes, 14, a.sends);
+    true
+}
+
+// The head as the first bytes. False, with nothing changed, where there is no room for it.
+pub fn pack_end_entity_head(bytes: &mut [u8], a: EndEntityAnswer) -> bool
+    ensures { λ r. ⌜ (r ≡ hasRoom 0 endEntityHeadBytes (now (bytes .entry))) × (now (bytes .exit) ≡ packAt 0 endEntityHeadBytes (packEndEntityHead a) (now (bytes .entry))) ⌝ }
+{
+    if bytes.len() < END_ENTITY_HEAD_BYTES {
+        return false;
+    }
+    let outcome = a.outcome;
+    put_outcome(bytes, outcome);
+    put_fault(bytes, a.fault);
+    put_flag(bytes, 13, a.sends);
+    true
+}
