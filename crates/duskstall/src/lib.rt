@@ -1,5 +1,8 @@
 // The static library for the host: functions over numbers and byte slices. Every one is total, whatever it is handed.
+mod boundary;
+pub mod end_entity_calls;
 mod fields;
+pub mod registrar_calls;
 
 use crate::fields::FIELDS;
 use crate::fields::put_message;

@@ -1,0 +1,93 @@
+-- The calls of both ends over lent bytes: what the bytes stand for goes into the call, and its answer goes back into bytes.
+use Prim.Native.Nat.{ℕ}
+use mathlib.Core.List.{List}
+use mathlib.Core.Bool.{Bool, true, false, cond}
+use mathlib.Core.Path.{_≡_}
+use lib.ListN.{length}
+use lib.Dec.{eqb, leb}
+use Rattle.protocol.specs.declared.Board.{Board}
+use Rattle.protocol.specs.declared.Verdict.{Verdict}
+use Rattle.protocol.specs.declared.Verdict.the-variants.{Bad, Good}
+use Rattle.protocol.specs.declared.TransactionTable.{TransactionTable}
+use Rattle.protocol.specs.declared.Enrolment.{Enrolment}
+use Rattle.protocol.specs.declared.RegistrarAnswer.{RegistrarAnswer}
+use Rattle.protocol.specs.declared.EndEntityAnswer.{EndEntityAnswer}
+use Rattle.packed.specs.Bytes.{packAt}
+use Rattle.packed.specs.Table.{unpackTable, packTableIn}
+use Rattle.packed.specs.Enrolment.{unpackEnrolment, packEnrolmentIn}
+use Rattle.packed.specs.Outgoing.{packOutgoing, outgoingBytes}
+use Rattle.packed.specs.Answer.{outcomeNumber, packRegistrarHead, registrarHeadBytes, packEndEntityHead, endEntityHeadBytes}
+
+-- the number that is returned, the state's bytes and the answer's bytes after a call
+pub record Crossing : Type 0 where
+  pub code : ℕ
+  pub state : List ℕ
+  pub answer : List ℕ
+
+pub record Crosses (code : ℕ) (state answer : List ℕ) (x : Crossing) : Type 0 where
+  pub code-is : code ≡ x .code
+  pub state-is : state ≡ x .state
+  pub answer-is : answer ≡ x .answer
+
+-- ## What is wrong with the lent bytes
+
+-- 251: no state; 252: an id, a nonce or a hash of another length; 253: no room for the answer; 0: none of these
+abbrev pub boundaryFault : (state args room : Bool) → ℕ
+boundaryFault state args room = cond state (cond args (cond room 0 253) 252) 251
+
+-- nothing changes
+abbrev pub untouched : ℕ → (state answer : List ℕ) → Crossing
+untouched k s a = record { code = k; state = s; answer = a }
+
+-- ## The registrar
+
+abbrev pub registrarAnswerBytes : ℕ
+registrarAnswerBytes = 103
+
+abbrev pub packRegistrarAnswer : RegistrarAnswer → List ℕ → List ℕ
+packRegistrarAnswer a s = packAt registrarHeadBytes outgoingBytes (packOutgoing (a .outgoing)) (packAt 0 registrarHeadBytes (packRegistrarHead a) s)
+
+abbrev pub registrarAnswered : RegistrarAnswer → (state answer : List ℕ) → Crossing
+registrarAnswered a s b = record { code = outcomeNumber (a .outcome); state = packTableIn (a .table) s; answer = packRegistrarAnswer a b }
+
+-- a call of the registrar on the table that the bytes stand for
+unfoldable pub registrarCrossing : (args : Bool) → (TransactionTable → RegistrarAnswer) → (state answer : List ℕ) → Crossing
+registrarCrossing args f s b =
+    let k : ℕ = boundaryFault (unpackTable s .ok) args (leb registrarAnswerBytes (length b)) in
+    cond (eqb k 0) (registrarAnswered (f (unpackTable s .table)) s b) (untouched k s b)
+
+-- ## The end entity
+
+abbrev pub endEntityAnswerBytes : ℕ
+endEntityAnswerBytes = 102
+
+abbrev pub packEndEntityAnswer : EndEntityAnswer → List ℕ → List ℕ
+packEndEntityAnswer a s = packAt endEntityHeadBytes outgoingBytes (packOutgoing (a .outgoing)) (packAt 0 endEntityHeadBytes (packEndEntityHead a) s)
+
+abbrev pub endEntityAnswered : EndEntityAnswer → (state answer : List ℕ) → Crossing
+endEntityAnswered a s b = record { code = outcomeNumber (a .outcome); state = packEnrolmentIn (a .enrolment) s; answer = packEndEntityAnswer a b }
+
+-- a call of an end entity on the enrolment that the bytes stand for
+unfoldable pub endEntityCrossing : (args : Bool) → (Enrolment → EndEntityAnswer) → (state answer : List ℕ) → Crossing
+endEntityCrossing args f s b =
+    let k : ℕ = boundaryFault (unpackEnrolment s .ok) args (leb endEntityAnswerBytes (length b)) in
+    cond (eqb k 0) (endEntityAnswered (f (unpackEnrolment s .enrolment)) s b) (untouched k s b)
+
+-- a start needs only room for an enrolment; where it is refused, the bytes stay
+abbrev pub startAnswered : EndEntityAnswer → (state answer : List ℕ) → Crossing
+startAnswered a s b =
+    record { code = outcomeNumber (a .outcome); state = cond (eqb (outcomeNumber (a .outcome)) 0) (packEnrolmentIn (a .enrolment) s) s; answer = packEndEntityAnswer a b }
+
+unfoldable pub startCrossing : (args : Bool) → EndEntityAnswer → (state answer : List ℕ) → Crossing
+startCrossing args a s b =
+    let k : ℕ = boundaryFault (eqb (length s) 82) args (leb endEntityAnswerBytes (length b)) in
+    cond (eqb k 0) (startAnswered a s b) (untouched k s b)
+
+-- ## What is handed in
+
+-- 0 is no, any other number yes
+abbrev pub yes : ℕ → Bool
+yes n = cond (eqb n 0) false true
+
+abbrev pub verdictOf : (good board : ℕ) → Verdict
+verdictOf good board = cond (eqb good 0) Bad (Good (record { 0 = board }))

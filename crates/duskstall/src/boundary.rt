@@ -1,0 +1,143 @@
+// What both ends' calls share at the boundary: faults of the lent bytes, values from numbers, answers into bytes.
+use packed::answer::END_ENTITY_HEAD_BYTES;
+use packed::answer::REGISTRAR_HEAD_BYTES;
+use packed::answer::pack_end_entity_head;
+use packed::answer::pack_registrar_head;
+use packed::arrays::Unpacked16;
+use packed::arrays::Unpacked32;
+use packed::enrolment::pack_enrolment;
+use packed::outgoing::OUTGOING_BYTES;
+use packed::outgoing::pack_outgoing;
+use packed::table::pack_table;
+use protocol::Board;
+use protocol::EndEntityAnswer;
+use protocol::Hash;
+use protocol::Nonce;
+use protocol::Outcome;
+use protocol::RegistrarAnswer;
+use protocol::TransactionId;
+use protocol::Verdict;
+ghost use mathlib.Core.Path.{_≡_};
+ghost use mathlib.Core.Bool.{_&&_};
+ghost use Rattle.packed.specs.Table.{packTableIn};
+ghost use Rattle.packed.specs.Enrolment.{packEnrolmentIn};
+ghost use Rattle.packed.specs.Answer.{outcomeNumber};
+ghost use Rattle.duskstall.specs.Boundary.{Crosses, boundaryFault, registrarAnswered, endEntityAnswered, packEndEntityAnswer, startAnswered, yes, verdictOf};
+
+pub(crate) const REGISTRAR_ANSWER: usize = REGISTRAR_HEAD_BYTES + OUTGOING_BYTES;
+
+pub(crate) const END_ENTITY_ANSWER: usize = END_ENTITY_HEAD_BYTES + OUTGOING_BYTES;
+
+pub(crate) fn id_from(u: Unpacked16) -> TransactionId
+    ensures { λ r. ⌜ r ≡ record { bytes = u .bytes } ⌝ }
+{
+    let bytes = u.bytes;
+    TransactionId { bytes }
+}
+
+pub(crate) fn nonce_from(u: Unpacked16) -> Nonce
+    ensures { λ r. ⌜ r ≡ record { bytes = u .bytes } ⌝ }
+{
+    let bytes = u.bytes;
+    Nonce { bytes }
+}
+
+pub(crate) fn hash_from(u: Unpacked32) -> Hash
+    ensures { λ r. ⌜ r ≡ record { bytes = u .bytes } ⌝ }
+{
+    let bytes = u.bytes;
+    Hash { bytes }
+}
+
+// The lowest number that applies: 251 no state, 252 a length of what is handed in, 253 no room; 0 none.
+pub(crate) fn boundary_fault(state: bool, args: bool, room: bool) -> u64
+    ensures { λ r. ⌜ r ≡ boundaryFault state args room ⌝ }
+{
+    if state {
+        if args {
+            if room {
+                return 0;
+            }
+            return 253;
+        }
+        return 252;
+    }
+    251
+}
+
+pub(crate) fn both(a: bool, b: bool) -> bool
+    ensures { λ r. ⌜ r ≡ (a && b) ⌝ }
+{
+    if a { b } else { false }
+}
+
+pub(crate) fn yes(n: u8) -> bool
+    ensures { λ r. ⌜ r ≡ yes n ⌝ }
+{
+    if n == 0 { false } else { true }
+}
+
+pub(crate) fn verdict_of(good: u8, board: u16) -> Verdict
+    ensures { λ r. ⌜ r ≡ verdictOf good board ⌝ }
+{
+    if good == 0 {
+        return Verdict::Bad;
+    }
+    Verdict::Good(Board(board))
+}
+
+fn outcome_code(o: Outcome) -> u64
+    ensures { λ r. ⌜ r ≡ outcomeNumber o ⌝ }
+{
+    match o {
+        Outcome::Done => 0,
+        Outcome::Again => 1,
+        Outcome::Refused(_, _) => 2,
+    }
+}
+
+// The registrar's answer into the lent bytes.
+pub(crate) fn registrar_answered(table: &mut [u8], answer: &mut [u8], a: RegistrarAnswer) -> u64
+    ensures { λ r. ⌜ Crosses r (now (table .exit)) (now (answer .exit)) (registrarAnswered a (now (table .entry)) (now (answer .entry))) ⌝ }
+{
+    let outcome = a.outcome;
+    pack_table(table, a.table);
+    pack_registrar_head(answer, a);
+    pack_outgoing(answer, REGISTRAR_HEAD_BYTES, a.outgoing);
+    outcome_code(outcome)
+}
+
+// The end entity's answer without its enrolment.
+fn put_answer(answer: &mut [u8], a: EndEntityAnswer)
+    ensures { λ _. ⌜ now (answer .exit) ≡ packEndEntityAnswer a (now (answer .entry)) ⌝ }
+{
+    pack_end_entity_head(answer, a);
+    pack_outgoing(answer, END_ENTITY_HEAD_BYTES, a.outgoing);
+}
+
+// The end entity's answer into the lent bytes.
+pub(crate) fn end_entity_answered(
+    enrolment: &mut [u8],
+    answer: &mut [u8],
+    a: EndEntityAnswer,
+) -> u64
+    ensures { λ r. ⌜ Crosses r (now (enrolment .exit)) (now (answer .exit)) (endEntityAnswered a (now (enrolment .entry)) (now (answer .entry))) ⌝ }
+{
+    let outcome = a.outcome;
+    pack_enrolment(enrolment, a.enrolment);
+    put_answer(answer, a);
+    outcome_code(outcome)
+}
+
+// A start's answer into the lent bytes: a refused one gives no enrolment.
+pub(crate) fn start_answered(enrolment: &mut [u8], answer: &mut [u8], a: EndEntityAnswer) -> u64
+    ensures { λ r. ⌜ Crosses r (now (enrolment .exit)) (now (answer .exit)) (startAnswered a (now (enrolment .entry)) (now (answer .entry))) ⌝ }
+{
+    let outcome = a.outcome;
+    let code = outcome_code(outcome);
+    if code == 0 {
+        return end_entity_answered(enrolment, answer, a);
+    }
+    put_answer(answer, a);
+    code
+}
