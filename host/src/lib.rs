@@ -1,15 +1,36 @@
-//! The independent side of Duskstall: an ordinary Rust reader of CMP messages,
-//! a safe wrapper of the compiled proved reader, and a small DER writer with
-//! which the tests make the messages both are compared on.
+//! The host's side of Duskstall: the compiled proved library behind safe types,
+//! and what it is held to, an independent reader of CMP messages and a model of
+//! both ends in ordinary Rust.
 //!
-//! `cargo test --release --lib` tests the independent reader by itself. With
-//! the static library built, `cargo test --release --test differential --
-//! --nocapture` compares the two readers and `cargo run --release --bin bench`
-//! measures them.
+//! [`Registrar`] and [`EndEntity`] run the two ends of an enrolment; `compiled`
+//! reads a message. `independent` and `model` are written from the build
+//! description alone; `testing` makes messages for the tests.
+//!
+//! With the static library built, `cargo test --release -- --nocapture`
+//! compares all of it and `cargo run --release --bin bench` measures it.
 
+mod answers;
 pub mod compiled;
+mod end_entity;
+mod ends;
 pub mod independent;
+pub mod library;
+pub mod model;
+mod refusal;
+mod registrar;
+mod states;
 pub mod testing;
 mod types;
 
+pub use end_entity::EndEntity;
+pub use ends::{
+    Board, CertHash, Decision, EndEntityAnswer, Nonce, Outcome, Outgoing, RegistrarAnswer, Slot,
+    TransactionId, Verdict,
+};
+pub use refusal::Refusal;
+pub use registrar::Registrar;
+pub use states::{
+    Enrolment, EnrolmentState, Transaction, TransactionState, ENROLMENT_BYTES, ENROLMENT_STATES,
+    SLOTS, TABLE_BYTES, TRANSACTION_BYTES, TRANSACTION_STATES,
+};
 pub use types::{Reading, Refused, Span};
