@@ -24,7 +24,7 @@ fn confirming<E: Ends>(accept: bool) -> (Scene<E>, Parts, Parts) {
     (scene, request, cert_conf)
 }
 
-/// 1. One board's confirmation must not settle its neighbour's transaction.
+/// List 1: One board's confirmation must not settle its neighbour's transaction.
 fn neighbours_booking<E: Ends>() {
     let mut scene = Scene::<E>::new();
     scene.start(id(0));
@@ -53,7 +53,7 @@ fn neighbours_booking<E: Ends>() {
     scene.registrar_says(id(1), TransactionState::Confirmed);
 }
 
-/// 2. A lost pkiconf leaves the board unsettled, never failed.
+/// List 2: A lost pkiconf leaves the board unsettled, never failed.
 fn lost_pkiconf<E: Ends>() {
     let (mut scene, _, cert_conf) = confirming::<E>(true);
     let first = scene.settles(&cert_conf, 1, TransactionState::Confirmed);
@@ -65,7 +65,7 @@ fn lost_pkiconf<E: Ends>() {
     scene.registrar_says(id(1), TransactionState::Confirmed);
 }
 
-/// 3. Changed copies of a certConf that was taken.
+/// List 3: Changed copies of a certConf that was taken.
 fn changed_copies<E: Ends>() {
     let (mut scene, _, cert_conf) = confirming::<E>(true);
     scene.settles(&cert_conf, 1, TransactionState::Confirmed);
@@ -78,7 +78,7 @@ fn changed_copies<E: Ends>() {
     scene.registrar_says(id(1), TransactionState::Confirmed);
 }
 
-/// 4. A repeated request fails the board, and nothing is ever confirmed.
+/// List 4: A repeated request fails the board, and nothing is ever confirmed.
 fn repeated_opening<E: Ends>() {
     let mut scene = Scene::<E>::new();
     let request = scene.start(id(1));
@@ -93,7 +93,7 @@ fn repeated_opening<E: Ends>() {
     scene.close_refused(id(1), 30);
 }
 
-/// 5. A request repeated after its transaction was closed opens a new one,
+/// List 5: A request repeated after its transaction was closed opens a new one,
 /// which an old certConf cannot settle.
 fn opening_after_closing<E: Ends>() {
     let (mut scene, request, cert_conf) = confirming::<E>(true);
@@ -114,7 +114,7 @@ fn opening_after_closing<E: Ends>() {
     scene.registrar_says(id(1), TransactionState::Granted);
 }
 
-/// 6. A forged message is reflected as a genuine error, which unsettles the
+/// List 6: A forged message is reflected as a genuine error, which unsettles the
 /// board.
 fn reflected_error<E: Ends>() {
     let (mut scene, _, cert_conf) = confirming::<E>(true);
@@ -125,7 +125,7 @@ fn reflected_error<E: Ends>() {
     scene.board_refuses(1, &pkiconf, 20);
 }
 
-/// 7. The board has hashed another certificate than was issued.
+/// List 7: The board has hashed another certificate than was issued.
 fn another_certificate<E: Ends>() {
     let mut scene = Scene::<E>::new();
     let request = scene.start(id(1));
@@ -141,7 +141,7 @@ fn another_certificate<E: Ends>() {
     scene.close(id(1));
 }
 
-/// 8. A confirmation that comes after the host gave up waiting for it.
+/// List 8: A confirmation that comes after the host gave up waiting for it.
 fn late_confirmation<E: Ends>() {
     let (mut scene, request, cert_conf) = confirming::<E>(true);
     scene.lapse(id(1));
@@ -153,7 +153,7 @@ fn late_confirmation<E: Ends>() {
     scene.refuses(&cert_conf, good(1), 14, 13);
 }
 
-/// 9. Without its status info a rejection would be an acceptance.
+/// List 9: Without its status info a rejection would be an acceptance.
 fn stripped_rejection<E: Ends>() {
     let (mut scene, _, cert_conf) = confirming::<E>(false);
     let stripped = changed(&cert_conf, |parts| parts.status = None);
@@ -164,7 +164,7 @@ fn stripped_rejection<E: Ends>() {
     scene.board_takes(1, &pkiconf, EnrolmentState::Declined);
 }
 
-/// 10. A full table, and a slot that is used again.
+/// List 10: A full table, and a slot that is used again.
 fn full_table<E: Ends>() {
     let mut scene = Scene::<E>::new();
     let requests: Vec<Parts> = (0..=16).map(|number| scene.start(id(number))).collect();
