@@ -1,0 +1,283 @@
+//! The line and the hosts: which call comes next. The line repeats, reorders,
+//! alters and invents messages and hands them to any end; what it never picks
+//! again is lost.
+
+use super::coverage::Coverage;
+use super::history::Sender;
+use super::world::World;
+use duskstall_host::testing::ends::{EndEntityEnd, Ends, RegistrarEnd};
+use duskstall_host::testing::exchange::{Certificate, Parts};
+use duskstall_host::testing::random::{self, Random};
+use duskstall_host::{Board, CertHash, Decision, TransactionId, TransactionState, Verdict};
+
+/// How many boards there are.
+const BOARDS: usize = 16;
+
+/// How many enrolments a list has at most.
+const MEMBERS: usize = 40;
+
+/// Whether verdicts are as demand 3 supposes, or mostly good whatever came.
+#[derive(Clone, Copy, PartialEq, Eq)]
+pub enum Verdicts {
+    Inside,
+    Outside,
+}
+
+/// How likely things are in one list.
+pub struct Mood {
+    verdicts: Verdicts,
+    /// Of 32 calls, those that start enrolments, and those that close.
+    starts: usize,
+    closes: usize,
+    /// One of so many messages is old, invented, altered, misdirected.
+    old: usize,
+    invented: usize,
+    altered: usize,
+    misdirected: usize,
+}
+
+impl Mood {
+    pub fn draw(verdicts: Verdicts, random: &mut Random) -> Mood {
+        let mut one_of = || *random.pick(&[2, 4, 8, 16, 64]);
+        Mood {
+            verdicts,
+            old: one_of(),
+            invented: one_of(),
+            altered: one_of(),
+            misdirected: one_of(),
+            starts: 1 + random.below(5),
+            closes: random.below(4),
+        }
+    }
+
+    /// Makes the next call.
+    pub fn call<E: Ends>(
+        &self,
+        world: &mut World<E>,
+        random: &mut Random,
+        coverage: &mut Coverage,
+    ) {
+        let next = random.below(32);
+        if world.members.is_empty() || (next < self.starts && world.members.len() < MEMBERS) {
+            let kind = *random.pick(&[0, 0, 2, 4, 7, 1, 24]);
+            let board = Board(random.below(BOARDS) as u16);
+            return world.start(board, kind, coverage);
+        }
+        if next < self.starts + self.closes {
+            let over = [
+                TransactionState::Confirmed,
+                TransactionState::Declined,
+                TransactionState::Refused,
+                TransactionState::Lapsed,
+            ];
+            return world.close(pick_id(world, &over, random), coverage);
+        }
+        match next {
+            26..=28 => {
+                let id = pick_id(world, &[TransactionState::Asked], random);
+                world.issue(id, hash(random), coverage);
+            }
+            29 if random.once_in(2) => {
+                world.refuse(pick_id(world, &[TransactionState::Asked], random), coverage);
+            }
+            30 if random.once_in(3) => {
+                world.lapse(
+                    pick_id(world, &[TransactionState::Granted], random),
+                    coverage,
+                );
+            }
+            31 if random.once_in(3) => {
+                let number = random.below(world.members.len());
+                world.time_out(number, coverage);
+            }
+            _ => self.message(world, random, coverage),
+        }
+    }
+
+    /// Hands a message to an end.
+    fn message<E: Ends>(&self, world: &mut World<E>, random: &mut Random, coverage: &mut Coverage) {
+        let mut parts = if random.once_in(self.invented) {
+            invent(world, random)
+        } else {
+            self.sent(world, random)
+        };
+        if random.once_in(self.altered) {
+            alter(&mut parts, world, random);
+        }
+        let message = match random.below(64) {
+            0 => damage(&parts, random),
+            _ => parts.encode(),
+        };
+        let to_registrar = matches!(parts.kind, 0 | 2 | 4 | 7 | 24);
+        if to_registrar != random.once_in(self.misdirected) {
+            let verdict = self.at_registrar(world, &parts, &message, random);
+            return world.registrar_gets(&message, verdict, coverage);
+        }
+        let number = match self.receiver(world, &parts) {
+            Some(number) if !random.once_in(self.misdirected) => number,
+            _ => random.below(world.members.len()),
+        };
+        let good = self.at_member(world, &message, random);
+        let decision = decide(world, number, random);
+        world.member_gets(number, &message, good, decision, coverage);
+    }
+
+    /// A message that was sent, mostly one of the last.
+    fn sent<E: Ends>(&self, world: &World<E>, random: &mut Random) -> Parts {
+        let sent = &world.history.sent;
+        let from = if random.once_in(self.old) {
+            0
+        } else {
+            sent.len().saturating_sub(8)
+        };
+        let mut parts = Parts::of(&random.pick(&sent[from..]).outgoing);
+        parts.version = 2 + random.below(2) as i64;
+        parts
+    }
+
+    /// The enrolment with the message's id.
+    fn receiver<E: Ends>(&self, world: &World<E>, parts: &Parts) -> Option<usize> {
+        let id = parts.id.as_deref()?;
+        world
+            .members
+            .iter()
+            .position(|member| member.end.enrolment().id.0 == id)
+    }
+
+    /// Inside the premise a verdict is good only for a board that issued the
+    /// message, and may be anything where the message does not read.
+    fn at_registrar<E: Ends>(
+        &self,
+        world: &World<E>,
+        parts: &Parts,
+        message: &[u8],
+        random: &mut Random,
+    ) -> Verdict {
+        if random.once_in(16) {
+            return Verdict::Bad;
+        }
+        let any = Board(random.below(BOARDS) as u16);
+        let named = self
+            .receiver(world, parts)
+            .filter(|_| !random.once_in(8))
+            .map_or(any, |number| world.members[number].board);
+        match (self.verdicts, world.history.issuer(message)) {
+            (Verdicts::Outside, _) | (_, None) => Verdict::Good(named),
+            (_, Some(Some(Sender::Board(board)))) => Verdict::Good(board),
+            _ => Verdict::Bad,
+        }
+    }
+
+    /// The same at a board, where a good verdict names the registrar.
+    fn at_member<E: Ends>(&self, world: &World<E>, message: &[u8], random: &mut Random) -> bool {
+        if random.once_in(16) {
+            return false;
+        }
+        match (self.verdicts, world.history.issuer(message)) {
+            (Verdicts::Outside, _) | (_, None) => true,
+            (_, Some(issuer)) => issuer == Some(Sender::Registrar),
+        }
+    }
+}
+
+/// The id of a transaction in one of these states, or any id.
+fn pick_id<E: Ends>(
+    world: &World<E>,
+    states: &[TransactionState],
+    random: &mut Random,
+) -> TransactionId {
+    let fitting: Vec<TransactionId> = world
+        .registrar
+        .transactions()
+        .iter()
+        .filter(|(_, transaction)| states.contains(&transaction.state))
+        .map(|(_, transaction)| transaction.id)
+        .collect();
+    if fitting.is_empty() || random.once_in(8) {
+        TransactionId(any_number(world.ids, random))
+    } else {
+        *random.pick(&fitting)
+    }
+}
+
+/// A drawn number, or one of the next.
+fn any_number(drawn: u128, random: &mut Random) -> [u8; 16] {
+    (random.below(drawn as usize + 2) as u128).to_be_bytes()
+}
+
+/// One of a few hashes, so that certificates of two boards have the same.
+fn hash(random: &mut Random) -> CertHash {
+    CertHash([random.below(3) as u8; 32])
+}
+
+/// Mostly with the hash of the certificate that was issued.
+fn decide<E: Ends>(world: &World<E>, number: usize, random: &mut Random) -> Decision {
+    let id = world.members[number].end.enrolment().id;
+    let issued = world.registrar.find(id).map(|(_, found)| found.hash);
+    Decision {
+        accept: !random.once_in(3),
+        hash: match issued {
+            Some(issued) if !random.once_in(8) => issued,
+            _ => hash(random),
+        },
+    }
+}
+
+/// A message of values that the line has seen or can guess.
+fn invent<E: Ends>(world: &World<E>, random: &mut Random) -> Parts {
+    let kind = if random.once_in(8) {
+        random.below(27) as u8
+    } else {
+        *random.pick(&[0, 2, 4, 7, 24, 24, 24, 1, 3, 8, 19, 23])
+    };
+    let is_request = matches!(kind, 0 | 2 | 4 | 7);
+    Parts {
+        kind,
+        version: 2 + random.below(2) as i64,
+        protection_alg: true,
+        protection: true,
+        id: Some(any_number(world.ids, random).to_vec()),
+        sender_nonce: Some(any_number(world.nonces, random).to_vec()),
+        recip_nonce: (!is_request).then(|| any_number(world.nonces, random).to_vec()),
+        entries: 1,
+        number: 0,
+        status: Some(*random.pick(&[0, 2])),
+        hash: hash(random).0.to_vec(),
+        hash_alg: false,
+        certificate: Certificate::Plain,
+    }
+}
+
+/// Changes one part of a message.
+fn alter<E: Ends>(parts: &mut Parts, world: &World<E>, random: &mut Random) {
+    let nonce = any_number(world.nonces, random).to_vec();
+    let other = [None, Some(vec![0; 15]), Some(nonce.clone()), Some(nonce)];
+    match random.below(13) {
+        0 => parts.version = *random.pick(&[1, 4]),
+        1 => parts.protection_alg = false,
+        2 => parts.protection = false,
+        3 => {
+            parts.id = random.pick(&other).clone();
+        }
+        4 => parts.sender_nonce = random.pick(&other).clone(),
+        5 => parts.recip_nonce = random.pick(&other).clone(),
+        6 => parts.entries = *random.pick(&[0, 2]),
+        7 => parts.number = *random.pick(&[1, -1]),
+        8 => parts.status = *random.pick(&[None, Some(0), Some(1), Some(2), Some(3)]),
+        9 => parts.hash = hash(random).0.to_vec(),
+        10 => parts.hash_alg = true,
+        11 => parts.certificate = *random.pick(&[Certificate::Nothing, Certificate::Encrypted]),
+        _ => parts.kind = random.below(27) as u8,
+    }
+}
+
+/// Breaks a message's bytes.
+fn damage(parts: &Parts, random: &mut Random) -> Vec<u8> {
+    let mut bytes = parts.encode();
+    match random.below(8) {
+        0 => bytes.clear(),
+        1 => bytes.resize(16_385, 0),
+        _ => random::damage_bytes(&mut bytes, random),
+    }
+    bytes
+}
