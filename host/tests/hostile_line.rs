@@ -17,7 +17,7 @@ use claims::Claims;
 use coverage::Coverage;
 use duskstall_host::testing::ends::Compiled;
 use duskstall_host::testing::random::Random;
-use line::{Mood, Verdicts};
+use line::{Line, Verdicts};
 use std::collections::BTreeSet;
 use std::time::Instant;
 use world::World;
@@ -33,10 +33,10 @@ fn run(calls: usize, seed: u64, verdicts: Verdicts) -> (Claims, Coverage) {
     let mut coverage = Coverage::default();
     let lists = calls / LIST;
     for _ in 0..lists {
-        let mood = Mood::draw(verdicts, &mut random);
+        let mut line = Line::draw(verdicts, &mut random);
         let mut world = World::<Compiled>::new();
         for _ in 0..LIST {
-            mood.call(&mut world, &mut random, &mut coverage);
+            line.call(&mut world, &mut random, &mut coverage);
             claims.check(&world);
         }
         assert_eq!(world.history.calls, LIST);

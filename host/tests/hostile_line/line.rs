@@ -1,6 +1,5 @@
-//! The line and the hosts: which call comes next. The line repeats, reorders,
-//! alters and invents messages and hands them to any end; what it never picks
-//! again is lost.
+//! The line and the hosts: which call comes next. The line loses, repeats,
+//! reorders, alters and invents messages and hands them to any end.
 
 use super::coverage::Coverage;
 use super::history::Sender;
@@ -23,24 +22,32 @@ pub enum Verdicts {
     Outside,
 }
 
-/// How likely things are in one list.
-pub struct Mood {
+/// The line and the hosts of one list, and how likely things are in it.
+pub struct Line {
     verdicts: Verdicts,
+    /// What was sent and not handed over yet, by its number in the history.
+    waiting: Vec<usize>,
+    /// How much of the history was looked at.
+    seen: usize,
     /// Of 32 calls, those that start enrolments, and those that close.
     starts: usize,
     closes: usize,
-    /// One of so many messages is old, invented, altered, misdirected.
+    /// One of so many messages is lost, old, invented, altered, misdirected.
+    lost: usize,
     old: usize,
     invented: usize,
     altered: usize,
     misdirected: usize,
 }
 
-impl Mood {
-    pub fn draw(verdicts: Verdicts, random: &mut Random) -> Mood {
+impl Line {
+    pub fn draw(verdicts: Verdicts, random: &mut Random) -> Line {
         let mut one_of = || *random.pick(&[2, 4, 8, 16, 64]);
-        Mood {
+        Line {
             verdicts,
+            waiting: Vec::new(),
+            seen: 0,
+            lost: one_of(),
             old: one_of(),
             invented: one_of(),
             altered: one_of(),
@@ -52,7 +59,7 @@ impl Mood {
 
     /// Makes the next call.
     pub fn call<E: Ends>(
-        &self,
+        &mut self,
         world: &mut World<E>,
         random: &mut Random,
         coverage: &mut Coverage,
@@ -72,20 +79,12 @@ impl Mood {
             ];
             return world.close(pick_id(world, &over, random), coverage);
         }
+        let asked = pick_id(world, &[TransactionState::Asked], random);
+        let granted = pick_id(world, &[TransactionState::Granted], random);
         match next {
-            26..=28 => {
-                let id = pick_id(world, &[TransactionState::Asked], random);
-                world.issue(id, hash(random), coverage);
-            }
-            29 if random.once_in(2) => {
-                world.refuse(pick_id(world, &[TransactionState::Asked], random), coverage);
-            }
-            30 if random.once_in(3) => {
-                world.lapse(
-                    pick_id(world, &[TransactionState::Granted], random),
-                    coverage,
-                );
-            }
+            26..=28 => world.issue(asked, hash(random), coverage),
+            29 if random.once_in(2) => world.refuse(asked, coverage),
+            30 if random.once_in(3) => world.lapse(granted, coverage),
             31 if random.once_in(3) => {
                 let number = random.below(world.members.len());
                 world.time_out(number, coverage);
@@ -95,7 +94,12 @@ impl Mood {
     }
 
     /// Hands a message to an end.
-    fn message<E: Ends>(&self, world: &mut World<E>, random: &mut Random, coverage: &mut Coverage) {
+    fn message<E: Ends>(
+        &mut self,
+        world: &mut World<E>,
+        random: &mut Random,
+        coverage: &mut Coverage,
+    ) {
         let mut parts = if random.once_in(self.invented) {
             invent(world, random)
         } else {
@@ -122,15 +126,21 @@ impl Mood {
         world.member_gets(number, &message, good, decision, coverage);
     }
 
-    /// A message that was sent, mostly one of the last.
-    fn sent<E: Ends>(&self, world: &World<E>, random: &mut Random) -> Parts {
+    /// A message that was sent: one of the next that wait, or any old one.
+    fn sent<E: Ends>(&mut self, world: &World<E>, random: &mut Random) -> Parts {
         let sent = &world.history.sent;
-        let from = if random.once_in(self.old) {
-            0
+        self.waiting.extend(self.seen..sent.len());
+        self.seen = sent.len();
+        while !self.waiting.is_empty() && random.once_in(self.lost) {
+            self.waiting.remove(0);
+        }
+        let number = if self.waiting.is_empty() || random.once_in(self.old) {
+            random.below(sent.len())
         } else {
-            sent.len().saturating_sub(8)
+            let next = random.below(self.waiting.len().min(4));
+            self.waiting.remove(next)
         };
-        let mut parts = Parts::of(&random.pick(&sent[from..]).outgoing);
+        let mut parts = Parts::of(&sent[number].outgoing);
         parts.version = 2 + random.below(2) as i64;
         parts
     }
@@ -223,29 +233,46 @@ fn decide<E: Ends>(world: &World<E>, number: usize, random: &mut Random) -> Deci
     }
 }
 
-/// A message of values that the line has seen or can guess.
+/// A message of values that the line has seen or can guess, mostly one that
+/// would fit a transaction or an enrolment.
 fn invent<E: Ends>(world: &World<E>, random: &mut Random) -> Parts {
-    let kind = if random.once_in(8) {
-        random.below(27) as u8
-    } else {
-        *random.pick(&[0, 2, 4, 7, 24, 24, 24, 1, 3, 8, 19, 23])
-    };
-    let is_request = matches!(kind, 0 | 2 | 4 | 7);
-    Parts {
-        kind,
+    let mut parts = Parts {
+        kind: random.below(27) as u8,
         version: 2 + random.below(2) as i64,
         protection_alg: true,
         protection: true,
         id: Some(any_number(world.ids, random).to_vec()),
         sender_nonce: Some(any_number(world.nonces, random).to_vec()),
-        recip_nonce: (!is_request).then(|| any_number(world.nonces, random).to_vec()),
+        recip_nonce: Some(any_number(world.nonces, random).to_vec()),
         entries: 1,
         number: 0,
         status: Some(*random.pick(&[0, 2])),
         hash: hash(random).0.to_vec(),
         hash_alg: false,
         certificate: Certificate::Plain,
+    };
+    let transactions = world.registrar.transactions();
+    match random.below(4) {
+        0 => {
+            parts.kind = *random.pick(&[0, 2, 4, 7]);
+            parts.recip_nonce = None;
+        }
+        1 if !transactions.is_empty() => {
+            let (_, transaction) = random.pick(&transactions);
+            parts.kind = 24;
+            parts.id = Some(transaction.id.0.to_vec());
+            parts.recip_nonce = Some(transaction.sent.0.to_vec());
+            parts.hash = transaction.hash.0.to_vec();
+        }
+        2 => {
+            let enrolment = random.pick(&world.members).end.enrolment();
+            parts.kind = *random.pick(&[1, 3, 8, 19, 19, 23]);
+            parts.id = Some(enrolment.id.0.to_vec());
+            parts.recip_nonce = Some(enrolment.last.0.to_vec());
+        }
+        _ => {}
     }
+    parts
 }
 
 /// Changes one part of a message.
