@@ -6,9 +6,17 @@
 use crate::ends::{
     CertHash, EndEntityAnswer, Nonce, Outcome, Outgoing, RegistrarAnswer, Slot, TransactionId,
 };
-use crate::library::{END_ENTITY_ANSWER_BYTES, OUTGOING_BYTES, REGISTRAR_ANSWER_BYTES};
 use crate::refusal::Refusal;
 use crate::types::Refused;
+
+/// The size of an outgoing message in an answer.
+const OUTGOING_BYTES: usize = 88;
+
+/// The size of the registrar's answer: its head and the outgoing message.
+pub const REGISTRAR_ANSWER_BYTES: usize = 15 + OUTGOING_BYTES;
+
+/// The size of an end entity's answer.
+pub const END_ENTITY_ANSWER_BYTES: usize = 14 + OUTGOING_BYTES;
 
 /// A bit's byte where there is none.
 const NO_BIT: u8 = 255;

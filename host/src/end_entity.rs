@@ -1,8 +1,8 @@
 //! An end entity, run by the compiled library.
 
-use crate::answers;
+use crate::answers::{self, END_ENTITY_ANSWER_BYTES};
 use crate::ends::{Decision, EndEntityAnswer, Nonce, Outcome, Outgoing, TransactionId};
-use crate::library::{self, END_ENTITY_ANSWER_BYTES};
+use crate::library;
 use crate::refusal::Refusal;
 use crate::states::{Enrolment, ENROLMENT_BYTES};
 

@@ -22,6 +22,7 @@ mod states;
 pub mod testing;
 mod types;
 
+pub use answers::{END_ENTITY_ANSWER_BYTES, REGISTRAR_ANSWER_BYTES};
 pub use end_entity::EndEntity;
 pub use ends::{
     Board, CertHash, Decision, EndEntityAnswer, Nonce, Outcome, Outgoing, RegistrarAnswer, Slot,

@@ -5,15 +5,6 @@
 //! against it: each follows the boundary by hand, a slice as a pointer and a
 //! length and a number as itself.
 
-/// The size of an outgoing message in an answer.
-pub const OUTGOING_BYTES: usize = 88;
-
-/// The size of the registrar's answer: its head and the outgoing message.
-pub const REGISTRAR_ANSWER_BYTES: usize = 15 + OUTGOING_BYTES;
-
-/// The size of an end entity's answer.
-pub const END_ENTITY_ANSWER_BYTES: usize = 14 + OUTGOING_BYTES;
-
 /// A call's number where the bytes of the table or the enrolment are none.
 /// Nothing has changed, as with the next two; the lowest that applies is given.
 pub const NO_STATE: u64 = 251;

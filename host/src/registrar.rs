@@ -1,8 +1,8 @@
 //! The registrar, run by the compiled library.
 
-use crate::answers;
+use crate::answers::{self, REGISTRAR_ANSWER_BYTES};
 use crate::ends::{CertHash, Nonce, RegistrarAnswer, Slot, TransactionId, Verdict};
-use crate::library::{self, REGISTRAR_ANSWER_BYTES};
+use crate::library;
 use crate::states::{Transaction, TransactionState, TABLE_BYTES, TRANSACTION_BYTES};
 
 /// A registrar with its table of sixteen transactions, in the library's bytes.

@@ -9,13 +9,15 @@ mod change;
 mod draw;
 #[path = "both_ends/pack.rs"]
 mod pack;
+#[path = "both_ends/pool.rs"]
+mod pool;
 #[path = "both_ends/tally.rs"]
 mod tally;
 
-use draw::Pool;
-use duskstall_host::library::{self, END_ENTITY_ANSWER_BYTES, NO_STATE, REGISTRAR_ANSWER_BYTES};
+use duskstall_host::library::{self, NO_STATE};
 use duskstall_host::testing::random::Random;
-use duskstall_host::{model, TABLE_BYTES};
+use duskstall_host::{model, END_ENTITY_ANSWER_BYTES, REGISTRAR_ANSWER_BYTES, TABLE_BYTES};
+use pool::Pool;
 use std::time::Instant;
 use tally::Tally;
 

@@ -6,6 +6,8 @@
 mod claims;
 #[path = "hostile_line/coverage.rs"]
 mod coverage;
+#[path = "hostile_line/forge.rs"]
+mod forge;
 #[path = "hostile_line/history.rs"]
 mod history;
 #[path = "hostile_line/line.rs"]

@@ -3,6 +3,8 @@
 //! and through the model. "Outside" marks a verdict that the premise of demand
 //! 3 rules out.
 
+#[path = "lists/expected.rs"]
+mod expected;
 #[path = "lists/scene.rs"]
 mod scene;
 

@@ -2,13 +2,11 @@
 //! on the model behind the same boundary.
 
 use super::pack;
-use duskstall_host::library::{
-    self, BAD_LENGTH, END_ENTITY_ANSWER_BYTES, NO_ROOM, NO_STATE, REGISTRAR_ANSWER_BYTES,
-};
+use duskstall_host::library::{self, BAD_LENGTH, NO_ROOM, NO_STATE};
 use duskstall_host::model::{EndEntity, Registrar};
 use duskstall_host::{
     Board, CertHash, Decision, EndEntityAnswer, Enrolment, Nonce, Outcome, RegistrarAnswer,
-    TransactionId, Verdict, ENROLMENT_BYTES,
+    TransactionId, Verdict, END_ENTITY_ANSWER_BYTES, ENROLMENT_BYTES, REGISTRAR_ANSWER_BYTES,
 };
 
 /// A call that changes a state in bytes and puts its answer into others.

@@ -1,7 +1,7 @@
 //! Changes to a message: to single parts of it, so that a single row of the
 //! refusals is met, and damage to its elements and bytes.
 
-use super::draw::Pool;
+use super::pool::Pool;
 use duskstall_host::testing::exchange::{Certificate, Parts};
 use duskstall_host::testing::random::{self, Random};
 

@@ -1,63 +1,18 @@
-//! States and calls drawn at random. Values come from small pools, so that they
-//! meet, and messages are made to fit the state they go to before something in
-//! them is changed.
+//! States and calls drawn at random. Messages are made to fit the state they go
+//! to before something in them is changed.
 
 use super::calls::{EndEntityCall, RegistrarCall};
 use super::change::{changed, damaged};
+use super::pool::Pool;
 use duskstall_host::testing::exchange::{Certificate, Parts};
 use duskstall_host::testing::random::Random;
 use duskstall_host::{
-    Board, CertHash, Enrolment, Nonce, Transaction, TransactionId, TransactionState,
-    ENROLMENT_BYTES, ENROLMENT_STATES, SLOTS, TABLE_BYTES, TRANSACTION_BYTES, TRANSACTION_STATES,
+    Board, Enrolment, Transaction, TransactionState, ENROLMENT_BYTES, ENROLMENT_STATES, SLOTS,
+    TABLE_BYTES, TRANSACTION_BYTES, TRANSACTION_STATES,
 };
 
 /// The kinds of requests.
 const REQUESTS: [u8; 4] = [0, 2, 4, 7];
-
-/// Values that are used again and again. Zeros are among them, and an id that
-/// is a nonce too.
-pub struct Pool {
-    pub ids: Vec<[u8; 16]>,
-    pub nonces: Vec<[u8; 16]>,
-    pub hashes: Vec<[u8; 32]>,
-}
-
-impl Pool {
-    pub fn new(random: &mut Random) -> Pool {
-        let mut ids = vec![[0; 16]];
-        ids.extend((0..19).map(|_| array(random)));
-        let mut nonces = vec![[0; 16], ids[1]];
-        nonces.extend((0..6).map(|_| array(random)));
-        let mut hashes = vec![[0; 32]];
-        hashes.extend((0..3).map(|_| array(random)));
-        Pool {
-            ids,
-            nonces,
-            hashes,
-        }
-    }
-
-    fn id(&self, random: &mut Random) -> TransactionId {
-        TransactionId(*random.pick(&self.ids))
-    }
-
-    /// One of the pool, or one that was never there.
-    fn nonce(&self, random: &mut Random) -> Nonce {
-        Nonce(if random.once_in(2) {
-            array(random)
-        } else {
-            *random.pick(&self.nonces)
-        })
-    }
-
-    fn hash(&self, random: &mut Random) -> CertHash {
-        CertHash(*random.pick(&self.hashes))
-    }
-}
-
-pub fn array<const SIZE: usize>(random: &mut Random) -> [u8; SIZE] {
-    std::array::from_fn(|_| random.byte())
-}
 
 // States.
 

@@ -1,10 +1,9 @@
 //! States and answers in bytes, as the library's boundary has them.
 
-use duskstall_host::library::{END_ENTITY_ANSWER_BYTES, REGISTRAR_ANSWER_BYTES};
 use duskstall_host::model::Registrar;
 use duskstall_host::{
     CertHash, EndEntityAnswer, Nonce, Outcome, Outgoing, RegistrarAnswer, Slot, Transaction,
-    TRANSACTION_BYTES,
+    END_ENTITY_ANSWER_BYTES, REGISTRAR_ANSWER_BYTES, TRANSACTION_BYTES,
 };
 
 /// The byte of a bit that is none.

@@ -2,11 +2,14 @@
 //! asserts the whole answer and the state after it; what it returns is the
 //! message that was sent, for the line to do as it likes with.
 
+use super::expected::{
+    board_done, board_refused, id_in, nonce_in, plain, registrar_done, registrar_refused, response,
+};
 use duskstall_host::testing::ends::{EndEntityEnd, Ends, RegistrarEnd};
 use duskstall_host::testing::exchange::Parts;
 use duskstall_host::{
-    Board, CertHash, Decision, EndEntityAnswer, EnrolmentState, Nonce, Outcome, Outgoing, Refusal,
-    RegistrarAnswer, Slot, TransactionId, TransactionState, Verdict,
+    Board, CertHash, Decision, EndEntityAnswer, EnrolmentState, Nonce, Outcome, Outgoing,
+    RegistrarAnswer, TransactionId, TransactionState, Verdict,
 };
 
 pub struct Scene<E: Ends> {
@@ -275,81 +278,5 @@ impl<E: Ends> Scene<E> {
     pub fn registrar_says(&self, id: TransactionId, state: TransactionState) {
         let found = self.registrar.find(id);
         assert_eq!(found.map(|(_, found)| found.state), Some(state));
-    }
-}
-
-fn id_in(message: &Parts) -> TransactionId {
-    TransactionId(sixteen(&message.id))
-}
-
-fn nonce_in(part: &Option<Vec<u8>>) -> Nonce {
-    Nonce(sixteen(part))
-}
-
-fn sixteen(part: &Option<Vec<u8>>) -> [u8; 16] {
-    let bytes = part.as_deref().expect("the lists leave it in");
-    bytes.try_into().expect("the lists leave its length")
-}
-
-/// An outgoing message without contents.
-fn plain(kind: u8, id: TransactionId, sender_nonce: Nonce, recip_nonce: Nonce) -> Outgoing {
-    Outgoing {
-        kind,
-        id,
-        sender_nonce,
-        recip_nonce: Some(recip_nonce),
-        status: None,
-        hash: None,
-        failure: None,
-    }
-}
-
-fn response(request: u8, id: TransactionId, nonce: Nonce, taken: Nonce, status: u32) -> Outgoing {
-    let kind = match request {
-        0 => 1,
-        7 => 8,
-        _ => 3,
-    };
-    Outgoing {
-        status: Some(status),
-        ..plain(kind, id, nonce, taken)
-    }
-}
-
-fn refusal(number: u8, bit: Option<u8>) -> Outcome {
-    Outcome::Refused(Refusal {
-        number,
-        bit,
-        fault: None,
-    })
-}
-
-fn registrar_done(slot: usize, outgoing: Option<Outgoing>) -> RegistrarAnswer {
-    RegistrarAnswer {
-        outcome: Outcome::Done,
-        slot: Some(Slot(slot)),
-        outgoing,
-    }
-}
-
-fn registrar_refused(number: u8, bit: Option<u8>, outgoing: Option<Outgoing>) -> RegistrarAnswer {
-    RegistrarAnswer {
-        outcome: refusal(number, bit),
-        slot: None,
-        outgoing,
-    }
-}
-
-fn board_done(outgoing: Option<Outgoing>) -> EndEntityAnswer {
-    EndEntityAnswer {
-        outcome: Outcome::Done,
-        outgoing,
-    }
-}
-
-fn board_refused(number: u8, bit: Option<u8>) -> EndEntityAnswer {
-    EndEntityAnswer {
-        outcome: refusal(number, bit),
-        outgoing: None,
     }
 }
