@@ -110,7 +110,7 @@ extern "C" {
 /// Reads a message: 0 and all fields filled, or the refusal's number with its
 /// offset and rule in the first two fields.
 pub fn read(message: &[u8], fields: &mut [u64]) -> u64 {
-    // SAFETY: above.
+    // SAFETY: as said above the declarations.
     unsafe {
         duskstall_read(
             message.as_ptr(),
@@ -124,13 +124,13 @@ pub fn read(message: &[u8], fields: &mut [u64]) -> u64 {
 /// Checks a run of DER elements: 0, or eight times the fault's offset plus its
 /// rule.
 pub fn check(bytes: &[u8]) -> u64 {
-    // SAFETY: above.
+    // SAFETY: as said above the declarations.
     unsafe { duskstall_check(bytes.as_ptr(), bytes.len()) }
 }
 
 /// The empty table.
 pub fn registrar_empty(table: &mut [u8]) -> u64 {
-    // SAFETY: above.
+    // SAFETY: as said above the declarations.
     unsafe { duskstall_registrar_empty(table.as_mut_ptr(), table.len()) }
 }
 
@@ -143,7 +143,7 @@ pub fn registrar_message(
     nonce: &[u8],
     answer: &mut [u8],
 ) -> u64 {
-    // SAFETY: above.
+    // SAFETY: as said above the declarations.
     unsafe {
         duskstall_registrar_message(
             table.as_mut_ptr(),
@@ -168,7 +168,7 @@ pub fn registrar_issue(
     hash: &[u8],
     answer: &mut [u8],
 ) -> u64 {
-    // SAFETY: above.
+    // SAFETY: as said above the declarations.
     unsafe {
         duskstall_registrar_issue(
             table.as_mut_ptr(),
@@ -187,7 +187,7 @@ pub fn registrar_issue(
 
 /// The host refuses a request.
 pub fn registrar_refuse(table: &mut [u8], id: &[u8], nonce: &[u8], answer: &mut [u8]) -> u64 {
-    // SAFETY: above.
+    // SAFETY: as said above the declarations.
     unsafe {
         duskstall_registrar_refuse(
             table.as_mut_ptr(),
@@ -204,7 +204,7 @@ pub fn registrar_refuse(table: &mut [u8], id: &[u8], nonce: &[u8], answer: &mut 
 
 /// The host gives up waiting for a confirmation.
 pub fn registrar_lapse(table: &mut [u8], id: &[u8], answer: &mut [u8]) -> u64 {
-    // SAFETY: above.
+    // SAFETY: as said above the declarations.
     unsafe {
         duskstall_registrar_lapse(
             table.as_mut_ptr(),
@@ -219,7 +219,7 @@ pub fn registrar_lapse(table: &mut [u8], id: &[u8], answer: &mut [u8]) -> u64 {
 
 /// The host frees a slot.
 pub fn registrar_close(table: &mut [u8], id: &[u8], answer: &mut [u8]) -> u64 {
-    // SAFETY: above.
+    // SAFETY: as said above the declarations.
     unsafe {
         duskstall_registrar_close(
             table.as_mut_ptr(),
@@ -240,7 +240,7 @@ pub fn end_entity_start(
     nonce: &[u8],
     answer: &mut [u8],
 ) -> u64 {
-    // SAFETY: above.
+    // SAFETY: as said above the declarations.
     unsafe {
         duskstall_end_entity_start(
             enrolment.as_mut_ptr(),
@@ -266,7 +266,7 @@ pub fn end_entity_message(
     nonce: &[u8],
     answer: &mut [u8],
 ) -> u64 {
-    // SAFETY: above.
+    // SAFETY: as said above the declarations.
     unsafe {
         duskstall_end_entity_message(
             enrolment.as_mut_ptr(),
@@ -287,7 +287,7 @@ pub fn end_entity_message(
 
 /// No answer came in time.
 pub fn end_entity_time_out(enrolment: &mut [u8], answer: &mut [u8]) -> u64 {
-    // SAFETY: above.
+    // SAFETY: as said above the declarations.
     unsafe {
         duskstall_end_entity_time_out(
             enrolment.as_mut_ptr(),

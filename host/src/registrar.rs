@@ -29,7 +29,8 @@ use crate::states::{Transaction, TransactionState, TABLE_BYTES, TRANSACTION_BYTE
 /// let response = answer.outgoing.expect("the response to the request");
 /// assert_eq!((response.kind, response.recip_nonce), (1, Some(Nonce([0x22; 16]))));
 ///
-/// let transaction = registrar.find(id).expect("the transaction is open");
+/// let (slot, transaction) = registrar.find(id).expect("the transaction is open");
+/// assert_eq!(slot, Slot(0));
 /// assert_eq!(transaction.board, Board(7));
 /// assert_eq!(transaction.state, TransactionState::Granted);
 /// # Ok::<(), duskstall_host::Refusal>(())
@@ -124,11 +125,10 @@ impl Registrar {
             .filter(|(_, transaction)| transaction.state != TransactionState::Free)
     }
 
-    /// The transaction with this id.
-    pub fn find(&self, id: TransactionId) -> Option<Transaction> {
+    /// The transaction with this id, and its slot.
+    pub fn find(&self, id: TransactionId) -> Option<(Slot, Transaction)> {
         self.transactions()
-            .map(|(_, transaction)| transaction)
-            .find(|transaction| transaction.id == id)
+            .find(|(_, transaction)| transaction.id == id)
     }
 
     fn call(&mut self, call: impl FnOnce(&mut [u8], &mut [u8]) -> u64) -> RegistrarAnswer {

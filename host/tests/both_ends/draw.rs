@@ -57,13 +57,17 @@ fn any_table(random: &mut Random) -> Vec<u8> {
 
 /// An enrolment of the pool's values, or any bytes.
 pub fn enrolment(random: &mut Random, pool: &Pool) -> Vec<u8> {
-    if random.once_in(6) {
-        let mut bytes = random.bytes(ENROLMENT_BYTES);
-        if !random.once_in(4) {
-            bytes[ENROLMENT_BYTES - 1] %= ENROLMENT_STATES.len() as u8;
-        }
-        return bytes;
+    if !random.once_in(6) {
+        return pooled(random, pool).pack();
     }
+    let mut bytes = random.bytes(ENROLMENT_BYTES);
+    if !random.once_in(4) {
+        bytes[ENROLMENT_BYTES - 1] %= ENROLMENT_STATES.len() as u8;
+    }
+    bytes
+}
+
+fn pooled(random: &mut Random, pool: &Pool) -> Enrolment {
     Enrolment {
         id: pool.id(random),
         kind: request_kind(random),
@@ -72,7 +76,6 @@ pub fn enrolment(random: &mut Random, pool: &Pool) -> Vec<u8> {
         hash: pool.hash(random),
         state: *random.pick(&ENROLMENT_STATES),
     }
-    .pack()
 }
 
 fn request_kind(random: &mut Random) -> u8 {
@@ -180,50 +183,35 @@ fn lent(bytes: &[u8], random: &mut Random) -> Vec<u8> {
 
 /// A request, or a certConf that this transaction would take, before damage.
 fn message_to_registrar(random: &mut Random, pool: &Pool, about: &Transaction) -> Vec<u8> {
-    let is_request = random.once_in(3);
-    let parts = Parts {
-        kind: if is_request {
-            *random.pick(&REQUESTS)
-        } else {
-            24
-        },
-        id: Some(
-            if is_request {
-                pool.id(random)
-            } else {
-                about.id
-            }
-            .0
-            .to_vec(),
-        ),
-        sender_nonce: Some(
-            if random.once_in(3) {
-                pool.nonce(random)
-            } else {
-                about.taken
-            }
-            .0
-            .to_vec(),
-        ),
-        recip_nonce: (!is_request).then(|| about.sent.0.to_vec()),
-        status: *random.pick(&[None, Some(0), Some(2)]),
-        hash: about.hash.0.to_vec(),
-        ..plain()
+    let sender_nonce = match random.below(3) {
+        0 => pool.nonce(random),
+        _ => about.taken,
+    };
+    let parts = if random.once_in(3) {
+        Parts {
+            kind: *random.pick(&REQUESTS),
+            id: Some(pool.id(random).0.to_vec()),
+            sender_nonce: Some(sender_nonce.0.to_vec()),
+            ..plain()
+        }
+    } else {
+        Parts {
+            kind: 24,
+            id: Some(about.id.0.to_vec()),
+            sender_nonce: Some(sender_nonce.0.to_vec()),
+            recip_nonce: Some(about.sent.0.to_vec()),
+            status: *random.pick(&[None, Some(0), Some(2)]),
+            hash: about.hash.0.to_vec(),
+            ..plain()
+        }
     };
     damaged(changed(parts, random, pool), random)
 }
 
 /// A response, pkiconf or error that this enrolment would take, before damage.
 fn message_to_end_entity(random: &mut Random, pool: &Pool, enrolment: &[u8]) -> Vec<u8> {
-    let drawn;
-    let bytes = match Enrolment::unpack(enrolment) {
-        Some(_) => enrolment,
-        None => {
-            drawn = random.bytes(ENROLMENT_BYTES);
-            &drawn
-        }
-    };
-    let kind = match (random.below(4), bytes[16]) {
+    let about = Enrolment::unpack(enrolment).unwrap_or_else(|| pooled(random, pool));
+    let kind = match (random.below(4), about.kind) {
         (0, _) => 19,
         (1, _) => 23,
         (_, 0) => 1,
@@ -232,9 +220,9 @@ fn message_to_end_entity(random: &mut Random, pool: &Pool, enrolment: &[u8]) -> 
     };
     let parts = Parts {
         kind,
-        id: Some(bytes[..16].to_vec()),
+        id: Some(about.id.0.to_vec()),
         sender_nonce: Some(pool.nonce(random).0.to_vec()),
-        recip_nonce: Some(bytes[17..33].to_vec()),
+        recip_nonce: Some(about.last.0.to_vec()),
         status: Some(match kind {
             23 => 2,
             _ => random.below(3) as i64,
