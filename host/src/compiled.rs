@@ -4,6 +4,7 @@
 //! Everything that decides is in the library; here its plain numbers are only
 //! put into the types the independent reader answers with.
 
+use crate::library;
 use crate::types::{Reading, Refused, Span};
 
 /// How many numbers a clean reading fills.
@@ -12,30 +13,11 @@ pub const FIELDS: usize = 47;
 /// The call's answer where the lent fields are fewer than [`FIELDS`].
 pub const TOO_FEW_FIELDS: u64 = 255;
 
-extern "C" {
-    fn duskstall_read(
-        message: *const u8,
-        message_len: usize,
-        fields: *mut u64,
-        fields_len: usize,
-    ) -> u64;
-    fn duskstall_check(bytes: *const u8, bytes_len: usize) -> u64;
-}
-
 /// The call as it is: 0 and all fields filled for a clean reading, the
 /// refusal's number and its offset and rule in the first two fields, or
 /// [`TOO_FEW_FIELDS`] and nothing written.
 pub fn read_fields(message: &[u8], fields: &mut [u64]) -> u64 {
-    // SAFETY: both pointers come from slices with these lengths, which stay
-    // borrowed during the call; the call only reads the first.
-    unsafe {
-        duskstall_read(
-            message.as_ptr(),
-            message.len(),
-            fields.as_mut_ptr(),
-            fields.len(),
-        )
-    }
+    library::read(message, fields)
 }
 
 /// Reads a message. An answer outside the call's contract (a number too large
@@ -64,9 +46,7 @@ pub fn check_elements(bytes: &[u8]) -> Option<(usize, u8)> {
 /// The call as it is: 0 for a sound run, else eight times the offset plus the
 /// rule.
 pub fn check_number(bytes: &[u8]) -> u64 {
-    // SAFETY: the pointer comes from a slice with this length, which stays
-    // borrowed during the call; the call only reads it.
-    unsafe { duskstall_check(bytes.as_ptr(), bytes.len()) }
+    library::check(bytes)
 }
 
 const OUTSIDE_CONTRACT: Refused = Refused {

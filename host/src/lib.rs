@@ -1,15 +1,73 @@
-//! The independent side of Duskstall: an ordinary Rust reader of CMP messages,
-//! a safe wrapper of the compiled proved reader, and a small DER writer with
-//! which the tests make the messages both are compared on.
+//! The host's side of Duskstall: the compiled proved library behind safe types,
+//! and what it is held to, an independent reader of CMP messages and a model of
+//! both ends in ordinary Rust.
 //!
-//! `cargo test --release --lib` tests the independent reader by itself. With
-//! the static library built, `cargo test --release --test differential --
-//! --nocapture` compares the two readers and `cargo run --release --bin bench`
-//! measures them.
+//! [`Registrar`] and [`EndEntity`] run the two ends of an enrolment; `compiled`
+//! reads a message. `independent` and `model` are written from the build
+//! description alone; `testing` makes messages for the tests.
+//!
+//! One enrolment, with a line that loses nothing:
+//!
+//! ```
+//! use duskstall_host::testing::exchange::Parts;
+//! use duskstall_host::{
+//!     Board, CertHash, Decision, EndEntity, EnrolmentState, Nonce, Registrar, TransactionId,
+//!     TransactionState, Verdict,
+//! };
+//!
+//! // The host draws ids and nonces, hashes certificates and verifies protection.
+//! let id = TransactionId([0xA1; 16]);
+//! let nonce = |number| Nonce([number; 16]);
+//! let hash = CertHash([0xAB; 32]);
+//! let from_board = Verdict::Good(Board(7));
+//! let encode = |outgoing| Parts::of(&outgoing).encode();
+//!
+//! let mut registrar = Registrar::new();
+//! let (mut board, request) = EndEntity::start(0, id, nonce(1))?;
+//! registrar.message(&encode(request), from_board, nonce(2));
+//!
+//! let response = registrar.issue(id, nonce(2), hash).outgoing.expect("an ip");
+//! let decision = Decision { accept: true, hash };
+//! let answer = board.message(&encode(response), true, decision, nonce(3));
+//! let cert_conf = answer.outgoing.expect("a certConf");
+//!
+//! let answer = registrar.message(&encode(cert_conf), from_board, nonce(4));
+//! let pkiconf = answer.outgoing.expect("a pkiconf");
+//! board.message(&encode(pkiconf), true, decision, nonce(5));
+//!
+//! let (_, transaction) = registrar.find(id).expect("it is open");
+//! assert_eq!(transaction.state, TransactionState::Confirmed);
+//! assert_eq!(board.enrolment().state, EnrolmentState::Sure);
+//! assert_eq!(board.enrolment().hash, transaction.hash);
+//! # Ok::<(), duskstall_host::Refusal>(())
+//! ```
+//!
+//! With the static library built, `cargo test --release -- --nocapture`
+//! compares all of it and `cargo run --release --bin bench` measures it.
 
+mod answers;
 pub mod compiled;
+mod end_entity;
+mod ends;
 pub mod independent;
+pub mod library;
+pub mod model;
+mod refusal;
+mod registrar;
+mod states;
 pub mod testing;
 mod types;
 
+pub use answers::{END_ENTITY_ANSWER_BYTES, REGISTRAR_ANSWER_BYTES};
+pub use end_entity::EndEntity;
+pub use ends::{
+    Board, CertHash, Decision, EndEntityAnswer, Nonce, Outcome, Outgoing, RegistrarAnswer, Slot,
+    TransactionId, Verdict,
+};
+pub use refusal::Refusal;
+pub use registrar::Registrar;
+pub use states::{
+    Enrolment, EnrolmentState, Transaction, TransactionState, ENROLMENT_BYTES, ENROLMENT_STATES,
+    SLOTS, TABLE_BYTES, TRANSACTION_BYTES, TRANSACTION_STATES,
+};
 pub use types::{Reading, Refused, Span};

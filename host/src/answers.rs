@@ -1,0 +1,142 @@
+//! The library's answers, from their bytes into plain data.
+//!
+//! Bytes outside the contract give [`Refusal::OUTSIDE_CONTRACT`], which no call
+//! gives, so that a comparison shows it.
+
+use crate::ends::{
+    CertHash, EndEntityAnswer, Nonce, Outcome, Outgoing, RegistrarAnswer, Slot, TransactionId,
+};
+use crate::refusal::Refusal;
+use crate::types::Refused;
+
+/// The size of an outgoing message in an answer.
+const OUTGOING_BYTES: usize = 88;
+
+/// The size of the registrar's answer: its head and the outgoing message.
+pub const REGISTRAR_ANSWER_BYTES: usize = 15 + OUTGOING_BYTES;
+
+/// The size of an end entity's answer.
+pub const END_ENTITY_ANSWER_BYTES: usize = 14 + OUTGOING_BYTES;
+
+/// A bit's byte where there is none.
+const NO_BIT: u8 = 255;
+
+const CERT_CONF: u8 = 24;
+
+/// The registrar's answer, of a call that gave this number.
+pub fn registrar(number: u64, bytes: &[u8; REGISTRAR_ANSWER_BYTES]) -> RegistrarAnswer {
+    registrar_answer(number, bytes).unwrap_or(RegistrarAnswer {
+        outcome: Outcome::Refused(Refusal::OUTSIDE_CONTRACT),
+        slot: None,
+        outgoing: None,
+    })
+}
+
+/// An end entity's answer, of a call that gave this number.
+pub fn end_entity(number: u64, bytes: &[u8; END_ENTITY_ANSWER_BYTES]) -> EndEntityAnswer {
+    end_entity_answer(number, bytes).unwrap_or(OUTSIDE_CONTRACT)
+}
+
+/// An end entity's answer where the library broke its contract.
+pub const OUTSIDE_CONTRACT: EndEntityAnswer = EndEntityAnswer {
+    outcome: Outcome::Refused(Refusal::OUTSIDE_CONTRACT),
+    outgoing: None,
+};
+
+fn registrar_answer(number: u64, bytes: &[u8; REGISTRAR_ANSWER_BYTES]) -> Option<RegistrarAnswer> {
+    let (head, outgoing) = bytes.split_first_chunk::<15>()?;
+    let [rest @ .., slot, sends] = head;
+    let outcome = outcome(number, rest)?;
+    Some(RegistrarAnswer {
+        outcome,
+        slot: match outcome {
+            Outcome::Refused(_) => None,
+            _ => Some(Slot(usize::from(*slot))),
+        },
+        outgoing: sent(*sends, outgoing)?,
+    })
+}
+
+fn end_entity_answer(
+    number: u64,
+    bytes: &[u8; END_ENTITY_ANSWER_BYTES],
+) -> Option<EndEntityAnswer> {
+    let (head, outgoing) = bytes.split_first_chunk::<14>()?;
+    let [rest @ .., sends] = head;
+    Some(EndEntityAnswer {
+        outcome: outcome(number, rest)?,
+        outgoing: sent(*sends, outgoing)?,
+    })
+}
+
+/// Outcome, number, bit and the reader's fault. The call gives the outcome as
+/// its number, too.
+fn outcome(call: u64, head: &[u8; 13]) -> Option<Outcome> {
+    let [outcome, number, bit, fault @ ..] = head;
+    if call != u64::from(*outcome) {
+        return None;
+    }
+    match outcome {
+        0 => Some(Outcome::Done),
+        1 => Some(Outcome::Again),
+        2 => Some(Outcome::Refused(Refusal {
+            number: *number,
+            bit: bit_of(*bit),
+            fault: fault_of(fault)?,
+        })),
+        _ => None,
+    }
+}
+
+fn bit_of(byte: u8) -> Option<u8> {
+    (byte != NO_BIT).then_some(byte)
+}
+
+fn fault_of(bytes: &[u8; 10]) -> Option<Option<Refused>> {
+    let [number, offset @ .., rule] = bytes;
+    if *number == 0 {
+        return Some(None);
+    }
+    Some(Some(Refused {
+        number: *number,
+        offset: usize::try_from(u64::from_be_bytes(*offset)).ok()?,
+        rule: *rule,
+    }))
+}
+
+fn sent(sends: u8, bytes: &[u8]) -> Option<Option<Outgoing>> {
+    match sends {
+        0 => Some(None),
+        1 => Some(Some(outgoing(bytes.try_into().ok()?)?)),
+        _ => None,
+    }
+}
+
+fn outgoing(bytes: &[u8; OUTGOING_BYTES]) -> Option<Outgoing> {
+    let [kind, rest @ ..] = bytes;
+    let (id, rest) = rest.split_first_chunk()?;
+    let (sender_nonce, rest) = rest.split_first_chunk()?;
+    let (has_recip_nonce, rest) = rest.split_first()?;
+    let (recip_nonce, rest) = rest.split_first_chunk()?;
+    let (has_status, rest) = rest.split_first()?;
+    let (status, rest) = rest.split_first_chunk()?;
+    let (hash, rest) = rest.split_first_chunk()?;
+    let [failure] = rest else { return None };
+    Some(Outgoing {
+        kind: *kind,
+        id: TransactionId(*id),
+        sender_nonce: Nonce(*sender_nonce),
+        recip_nonce: flag(*has_recip_nonce)?.then_some(Nonce(*recip_nonce)),
+        status: flag(*has_status)?.then_some(u32::from_be_bytes(*status)),
+        hash: (*kind == CERT_CONF).then_some(CertHash(*hash)),
+        failure: bit_of(*failure),
+    })
+}
+
+fn flag(byte: u8) -> Option<bool> {
+    match byte {
+        0 => Some(false),
+        1 => Some(true),
+        _ => None,
+    }
+}

@@ -1,0 +1,299 @@
+//! The calls of the compiled library, `libduskstall.a`, as they are: over
+//! slices, answered by a number and by bytes.
+//!
+//! All that decides is in the library. Nothing checks the declarations here
+//! against it: each follows the boundary by hand, a slice as a pointer and a
+//! length and a number as itself.
+
+/// A call's number where the bytes of the table or the enrolment are none.
+/// Nothing has changed, as with the next two; the lowest that applies is given.
+pub const NO_STATE: u64 = 251;
+
+/// A call's number where an id, a nonce or a hash has another length.
+pub const BAD_LENGTH: u64 = 252;
+
+/// A call's number where the answer has no room.
+pub const NO_ROOM: u64 = 253;
+
+// SAFETY, of every call below: each pointer comes with the length of the slice
+// it was taken from, which stays borrowed during the call. The library only
+// reads what is lent `const`, reads and writes nothing outside of the slices
+// and keeps no pointer, and slices lent `mut` do not overlap others.
+
+extern "C" {
+    fn duskstall_read(message: *const u8, len: usize, fields: *mut u64, fields_len: usize) -> u64;
+    fn duskstall_check(bytes: *const u8, len: usize) -> u64;
+    fn duskstall_registrar_empty(table: *mut u8, table_len: usize) -> u64;
+    fn duskstall_registrar_message(
+        table: *mut u8,
+        table_len: usize,
+        message: *const u8,
+        message_len: usize,
+        good: u8,
+        board: u16,
+        nonce: *const u8,
+        nonce_len: usize,
+        answer: *mut u8,
+        answer_len: usize,
+    ) -> u64;
+    fn duskstall_registrar_issue(
+        table: *mut u8,
+        table_len: usize,
+        id: *const u8,
+        id_len: usize,
+        nonce: *const u8,
+        nonce_len: usize,
+        hash: *const u8,
+        hash_len: usize,
+        answer: *mut u8,
+        answer_len: usize,
+    ) -> u64;
+    fn duskstall_registrar_refuse(
+        table: *mut u8,
+        table_len: usize,
+        id: *const u8,
+        id_len: usize,
+        nonce: *const u8,
+        nonce_len: usize,
+        answer: *mut u8,
+        answer_len: usize,
+    ) -> u64;
+    fn duskstall_registrar_lapse(
+        table: *mut u8,
+        table_len: usize,
+        id: *const u8,
+        id_len: usize,
+        answer: *mut u8,
+        answer_len: usize,
+    ) -> u64;
+    fn duskstall_registrar_close(
+        table: *mut u8,
+        table_len: usize,
+        id: *const u8,
+        id_len: usize,
+        answer: *mut u8,
+        answer_len: usize,
+    ) -> u64;
+    fn duskstall_end_entity_start(
+        enrolment: *mut u8,
+        enrolment_len: usize,
+        kind: u8,
+        id: *const u8,
+        id_len: usize,
+        nonce: *const u8,
+        nonce_len: usize,
+        answer: *mut u8,
+        answer_len: usize,
+    ) -> u64;
+    fn duskstall_end_entity_message(
+        enrolment: *mut u8,
+        enrolment_len: usize,
+        message: *const u8,
+        message_len: usize,
+        good: u8,
+        accept: u8,
+        hash: *const u8,
+        hash_len: usize,
+        nonce: *const u8,
+        nonce_len: usize,
+        answer: *mut u8,
+        answer_len: usize,
+    ) -> u64;
+    fn duskstall_end_entity_time_out(
+        enrolment: *mut u8,
+        enrolment_len: usize,
+        answer: *mut u8,
+        answer_len: usize,
+    ) -> u64;
+}
+
+/// Reads a message: 0 and all fields filled, or the refusal's number with its
+/// offset and rule in the first two fields.
+pub fn read(message: &[u8], fields: &mut [u64]) -> u64 {
+    // SAFETY: as said above the declarations.
+    unsafe {
+        duskstall_read(
+            message.as_ptr(),
+            message.len(),
+            fields.as_mut_ptr(),
+            fields.len(),
+        )
+    }
+}
+
+/// Checks a run of DER elements: 0, or eight times the fault's offset plus its
+/// rule.
+pub fn check(bytes: &[u8]) -> u64 {
+    // SAFETY: as said above the declarations.
+    unsafe { duskstall_check(bytes.as_ptr(), bytes.len()) }
+}
+
+/// The empty table.
+pub fn registrar_empty(table: &mut [u8]) -> u64 {
+    // SAFETY: as said above the declarations.
+    unsafe { duskstall_registrar_empty(table.as_mut_ptr(), table.len()) }
+}
+
+/// A message to the registrar. `good` 0 is a bad verdict; else it is good and names `board`.
+pub fn registrar_message(
+    table: &mut [u8],
+    message: &[u8],
+    good: u8,
+    board: u16,
+    nonce: &[u8],
+    answer: &mut [u8],
+) -> u64 {
+    // SAFETY: as said above the declarations.
+    unsafe {
+        duskstall_registrar_message(
+            table.as_mut_ptr(),
+            table.len(),
+            message.as_ptr(),
+            message.len(),
+            good,
+            board,
+            nonce.as_ptr(),
+            nonce.len(),
+            answer.as_mut_ptr(),
+            answer.len(),
+        )
+    }
+}
+
+/// The host issues a certificate with this hash.
+pub fn registrar_issue(
+    table: &mut [u8],
+    id: &[u8],
+    nonce: &[u8],
+    hash: &[u8],
+    answer: &mut [u8],
+) -> u64 {
+    // SAFETY: as said above the declarations.
+    unsafe {
+        duskstall_registrar_issue(
+            table.as_mut_ptr(),
+            table.len(),
+            id.as_ptr(),
+            id.len(),
+            nonce.as_ptr(),
+            nonce.len(),
+            hash.as_ptr(),
+            hash.len(),
+            answer.as_mut_ptr(),
+            answer.len(),
+        )
+    }
+}
+
+/// The host refuses a request.
+pub fn registrar_refuse(table: &mut [u8], id: &[u8], nonce: &[u8], answer: &mut [u8]) -> u64 {
+    // SAFETY: as said above the declarations.
+    unsafe {
+        duskstall_registrar_refuse(
+            table.as_mut_ptr(),
+            table.len(),
+            id.as_ptr(),
+            id.len(),
+            nonce.as_ptr(),
+            nonce.len(),
+            answer.as_mut_ptr(),
+            answer.len(),
+        )
+    }
+}
+
+/// The host gives up waiting for a confirmation.
+pub fn registrar_lapse(table: &mut [u8], id: &[u8], answer: &mut [u8]) -> u64 {
+    // SAFETY: as said above the declarations.
+    unsafe {
+        duskstall_registrar_lapse(
+            table.as_mut_ptr(),
+            table.len(),
+            id.as_ptr(),
+            id.len(),
+            answer.as_mut_ptr(),
+            answer.len(),
+        )
+    }
+}
+
+/// The host frees a slot.
+pub fn registrar_close(table: &mut [u8], id: &[u8], answer: &mut [u8]) -> u64 {
+    // SAFETY: as said above the declarations.
+    unsafe {
+        duskstall_registrar_close(
+            table.as_mut_ptr(),
+            table.len(),
+            id.as_ptr(),
+            id.len(),
+            answer.as_mut_ptr(),
+            answer.len(),
+        )
+    }
+}
+
+/// A new enrolment, whatever the enrolment's bytes are.
+pub fn end_entity_start(
+    enrolment: &mut [u8],
+    kind: u8,
+    id: &[u8],
+    nonce: &[u8],
+    answer: &mut [u8],
+) -> u64 {
+    // SAFETY: as said above the declarations.
+    unsafe {
+        duskstall_end_entity_start(
+            enrolment.as_mut_ptr(),
+            enrolment.len(),
+            kind,
+            id.as_ptr(),
+            id.len(),
+            nonce.as_ptr(),
+            nonce.len(),
+            answer.as_mut_ptr(),
+            answer.len(),
+        )
+    }
+}
+
+/// A message to an end entity. `good` and `accept`: 0 is no, all else yes.
+pub fn end_entity_message(
+    enrolment: &mut [u8],
+    message: &[u8],
+    good: u8,
+    accept: u8,
+    hash: &[u8],
+    nonce: &[u8],
+    answer: &mut [u8],
+) -> u64 {
+    // SAFETY: as said above the declarations.
+    unsafe {
+        duskstall_end_entity_message(
+            enrolment.as_mut_ptr(),
+            enrolment.len(),
+            message.as_ptr(),
+            message.len(),
+            good,
+            accept,
+            hash.as_ptr(),
+            hash.len(),
+            nonce.as_ptr(),
+            nonce.len(),
+            answer.as_mut_ptr(),
+            answer.len(),
+        )
+    }
+}
+
+/// No answer came in time.
+pub fn end_entity_time_out(enrolment: &mut [u8], answer: &mut [u8]) -> u64 {
+    // SAFETY: as said above the declarations.
+    unsafe {
+        duskstall_end_entity_time_out(
+            enrolment.as_mut_ptr(),
+            enrolment.len(),
+            answer.as_mut_ptr(),
+            answer.len(),
+        )
+    }
+}

@@ -1,0 +1,216 @@
+//! A call with all that it is lent, and how it runs on the compiled library and
+//! on the model behind the same boundary.
+
+use super::pack;
+use duskstall_host::library::{self, BAD_LENGTH, NO_ROOM, NO_STATE};
+use duskstall_host::model::{EndEntity, Registrar};
+use duskstall_host::{
+    Board, CertHash, Decision, EndEntityAnswer, Enrolment, Nonce, Outcome, RegistrarAnswer,
+    TransactionId, Verdict, END_ENTITY_ANSWER_BYTES, ENROLMENT_BYTES, REGISTRAR_ANSWER_BYTES,
+};
+
+/// A call that changes a state in bytes and puts its answer into others.
+pub trait Call {
+    fn on_library(&self, state: &mut [u8], answer: &mut [u8]) -> u64;
+    fn on_model(&self, state: &mut [u8], answer: &mut [u8]) -> u64;
+}
+
+/// A call of the registrar, without its table and its answer.
+#[derive(Clone, Debug)]
+pub enum RegistrarCall {
+    Message {
+        message: Vec<u8>,
+        good: u8,
+        board: u16,
+        nonce: Vec<u8>,
+    },
+    Issue {
+        id: Vec<u8>,
+        nonce: Vec<u8>,
+        hash: Vec<u8>,
+    },
+    Refuse {
+        id: Vec<u8>,
+        nonce: Vec<u8>,
+    },
+    Lapse {
+        id: Vec<u8>,
+    },
+    Close {
+        id: Vec<u8>,
+    },
+}
+
+impl Call for RegistrarCall {
+    fn on_library(&self, state: &mut [u8], answer: &mut [u8]) -> u64 {
+        use RegistrarCall::*;
+        match self {
+            Message {
+                message,
+                good,
+                board,
+                nonce,
+            } => library::registrar_message(state, message, *good, *board, nonce, answer),
+            Issue { id, nonce, hash } => library::registrar_issue(state, id, nonce, hash, answer),
+            Refuse { id, nonce } => library::registrar_refuse(state, id, nonce, answer),
+            Lapse { id } => library::registrar_lapse(state, id, answer),
+            Close { id } => library::registrar_close(state, id, answer),
+        }
+    }
+
+    fn on_model(&self, state: &mut [u8], answer: &mut [u8]) -> u64 {
+        let Some(mut registrar) = pack::unpack_table(state) else {
+            return NO_STATE;
+        };
+        let Some(result) = self.run(&mut registrar) else {
+            return BAD_LENGTH;
+        };
+        let Some(answer) = answer.get_mut(..REGISTRAR_ANSWER_BYTES) else {
+            return NO_ROOM;
+        };
+        answer.copy_from_slice(&pack::registrar_answer(result));
+        state.copy_from_slice(&pack::table(&registrar));
+        pack::number(result.outcome).into()
+    }
+}
+
+impl RegistrarCall {
+    /// None where an id, a nonce or a hash has another length.
+    fn run(&self, model: &mut Registrar) -> Option<RegistrarAnswer> {
+        use RegistrarCall::*;
+        Some(match self {
+            Message {
+                message,
+                good,
+                board,
+                nonce,
+            } => {
+                let verdict = match good {
+                    0 => Verdict::Bad,
+                    _ => Verdict::Good(Board(*board)),
+                };
+                model.message(message, verdict, to_nonce(nonce)?)
+            }
+            Issue { id, nonce, hash } => model.issue(to_id(id)?, to_nonce(nonce)?, to_hash(hash)?),
+            Refuse { id, nonce } => model.refuse(to_id(id)?, to_nonce(nonce)?),
+            Lapse { id } => model.lapse(to_id(id)?),
+            Close { id } => model.close(to_id(id)?),
+        })
+    }
+}
+
+/// A call of an end entity, without its enrolment and its answer.
+#[derive(Clone, Debug)]
+pub enum EndEntityCall {
+    Start {
+        kind: u8,
+        id: Vec<u8>,
+        nonce: Vec<u8>,
+    },
+    Message {
+        message: Vec<u8>,
+        good: u8,
+        accept: u8,
+        hash: Vec<u8>,
+        nonce: Vec<u8>,
+    },
+    TimeOut,
+}
+
+impl Call for EndEntityCall {
+    fn on_library(&self, state: &mut [u8], answer: &mut [u8]) -> u64 {
+        use EndEntityCall::*;
+        match self {
+            Start { kind, id, nonce } => library::end_entity_start(state, *kind, id, nonce, answer),
+            Message {
+                message,
+                good,
+                accept,
+                hash,
+                nonce,
+            } => library::end_entity_message(state, message, *good, *accept, hash, nonce, answer),
+            TimeOut => library::end_entity_time_out(state, answer),
+        }
+    }
+
+    fn on_model(&self, state: &mut [u8], answer: &mut [u8]) -> u64 {
+        use EndEntityCall::*;
+        match self {
+            Start { kind, id, nonce } => start(*kind, id, nonce, state, answer),
+            Message {
+                message,
+                good,
+                accept,
+                hash,
+                nonce,
+            } => step(state, answer, |model| {
+                let decision = Decision {
+                    accept: *accept != 0,
+                    hash: to_hash(hash)?,
+                };
+                Some(model.message(message, *good != 0, decision, to_nonce(nonce)?))
+            }),
+            TimeOut => step(state, answer, |model| Some(model.time_out())),
+        }
+    }
+}
+
+/// A call on an enrolment that there is.
+fn step(
+    state: &mut [u8],
+    answer: &mut [u8],
+    run: impl FnOnce(&mut EndEntity) -> Option<EndEntityAnswer>,
+) -> u64 {
+    let Some(enrolment) = Enrolment::unpack(state) else {
+        return NO_STATE;
+    };
+    let mut model = EndEntity { enrolment };
+    match run(&mut model) {
+        Some(result) => finish(Some(model), result, state, answer),
+        None => BAD_LENGTH,
+    }
+}
+
+/// A start writes a new enrolment, whatever the bytes were.
+fn start(kind: u8, id: &[u8], nonce: &[u8], state: &mut [u8], answer: &mut [u8]) -> u64 {
+    if state.len() != ENROLMENT_BYTES {
+        return NO_STATE;
+    }
+    let (Some(id), Some(nonce)) = (to_id(id), to_nonce(nonce)) else {
+        return BAD_LENGTH;
+    };
+    let (model, outcome, outgoing) = match EndEntity::start(kind, id, nonce) {
+        Ok((model, request)) => (Some(model), Outcome::Done, Some(request)),
+        Err(refusal) => (None, Outcome::Refused(refusal), None),
+    };
+    let result = EndEntityAnswer { outcome, outgoing };
+    finish(model, result, state, answer)
+}
+
+fn finish(
+    model: Option<EndEntity>,
+    result: EndEntityAnswer,
+    state: &mut [u8],
+    answer: &mut [u8],
+) -> u64 {
+    let Some(answer) = answer.get_mut(..END_ENTITY_ANSWER_BYTES) else {
+        return NO_ROOM;
+    };
+    answer.copy_from_slice(&pack::end_entity_answer(result));
+    if let Some(model) = model {
+        state.copy_from_slice(&model.enrolment.pack());
+    }
+    pack::number(result.outcome).into()
+}
+
+fn to_id(bytes: &[u8]) -> Option<TransactionId> {
+    Some(TransactionId(bytes.try_into().ok()?))
+}
+
+fn to_nonce(bytes: &[u8]) -> Option<Nonce> {
+    Some(Nonce(bytes.try_into().ok()?))
+}
+
+fn to_hash(bytes: &[u8]) -> Option<CertHash> {
+    Some(CertHash(bytes.try_into().ok()?))
+}
