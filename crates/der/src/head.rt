@@ -10,7 +10,7 @@ pub enum Head {
 }
 
 // A byte as a number to count with.
-fn wide(x: u8) -> usize
+pub(crate) fn wide(x: u8) -> usize
     ensures { λ r. ⌜ (r ≡ x) × (r < 256) ⌝ }
 {
     x as usize
@@ -66,7 +66,8 @@ fn two_bytes(s: &[u8]) -> usize
     fit(n, 4, wide(a) * 256 + wide(s[3]))
 }
 
-fn read_length(s: &[u8]) -> usize
+// The length alone as one number, the tag not looked at.
+pub(crate) fn read_length(s: &[u8]) -> usize
     ensures { λ r. ⌜ r ≡ packedOf (lengthOf (now (s .entry))) ⌝ }
 {
     let n = s.len();
