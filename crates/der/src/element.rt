@@ -128,9 +128,9 @@ fn elements(s: &[u8], base: usize, depth: u8) -> Check
         if no_room(d, n - i) {
             return Check::Fault(base + i, broken(&s[i..], d));
         }
-        let mut start = 2;
+        let mut start = head::SHORT;
         let mut len = wide(s[i + 1]);
-        if 127 < len {
+        if head::is_long(len) {
             let p = head::read_length(&s[i..]);
             start = p % 8;
             len = p / 8;

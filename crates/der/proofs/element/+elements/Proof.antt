@@ -23,6 +23,7 @@ use Rattle.der.proofs.element.broken.Reads as broken-reads
 use Rattle.der.proofs.element.kind_at.Reads as kind-at-reads
 use Rattle.der.proofs.element.no_room.Reads as no-room-reads
 use Rattle.der.proofs.head.read_length.Reads as read-length-reads
+use Rattle.der.proofs.head.is_long.Reads as is-long-reads
 use Rattle.der.proofs.head.wide.Reads as wide-reads
 use Rattle.der.proofs.element.+elements.{statement}
 use Rattle.der.proofs.element.+elements.Tie.{close}
@@ -51,6 +52,8 @@ two-left : (t : ℕ) (c : elements-lts.Else1 (
   broken-reads.Learnt,
   wide-reads.Asked,
   wide-reads.Learnt,
+  is-long-reads.Asked,
+  is-long-reads.Learnt,
   read-length-reads.Asked,
   read-length-reads.Learnt,
   kind-at-reads.Asked,
@@ -71,21 +74,26 @@ read-here : (t : ℕ) (c : elements-lts.Joined2 (
   broken-reads.Learnt,
   wide-reads.Asked,
   wide-reads.Learnt,
+  is-long-reads.Asked,
+  is-long-reads.Learnt,
   read-length-reads.Asked,
   read-length-reads.Learnt,
   kind-at-reads.Asked,
   kind-at-reads.Learnt,
   elements-below t,
   elements.Post,
-) (elements-at t) elements.Post elements-Inv-loop elements-μ-loop) → Read (drop (c .before .before .before .before .before .before .loop .i) (c .before .before .before .before .before .before .before .before .args .s .now)) (c .if2 .start) (c .if2 .len)
+) (elements-at t) elements.Post elements-Inv-loop elements-μ-loop) → Read (drop (c .before .before .before .before .before .before .before .loop .i) (c .before .before .before .before .before .before .before .before .before .args .s .now)) (c .if2 .start) (c .if2 .len)
 read-here t c =
-    let i = c .before .before .before .before .before .before .loop .i in
-    let s = c .before .before .before .before .before .before .before .before .args .s .now in
+    let l = c .before .before .before .before .before .before .before in
+    let i = l .loop .i in
+    let s = l .before .before .args .s .now in
+    let wide = c .before .before .wide in
     ⊎-elim
     (λ w. rw (w .3, w .4) (read-long (drop i s) (rw (tail-is s i) at (w .2 .ensures))))
-    (λ w. rw (w .1, w .2) (read-short (drop i s) (c .before .wide .result) (rw length-drop (two-left t (c .before .before .before))) (c .before .wide .ensures .0 ∙ sym (simp getD-drop)) (w .0 .left)))
+    (λ w. rw (w .1, w .2) (read-short (drop i s) (wide .result) (rw length-drop (two-left t (c .before .before .before .before))) (wide .ensures .0 ∙ sym (simp getD-drop)) (ltb-false 127 (wide .result) (told (c .before .is-long .ensures) (w .0 .left)))))
     (c .if2 .came)
 
+-- what the element there is
 found : (t : ℕ) (w : elements-lts.After-kind-at (
   no-room-reads.Asked,
   no-room-reads.Learnt,
@@ -93,21 +101,24 @@ found : (t : ℕ) (w : elements-lts.After-kind-at (
   broken-reads.Learnt,
   wide-reads.Asked,
   wide-reads.Learnt,
+  is-long-reads.Asked,
+  is-long-reads.Learnt,
   read-length-reads.Asked,
   read-length-reads.Learnt,
   kind-at-reads.Asked,
   kind-at-reads.Learnt,
   elements-below t,
   elements.Post,
-) (elements-at t) elements.Post elements-Inv-loop elements-μ-loop) → Found (w .before .before .before .before .before .before .before .loop .d) (w .before .before .before .before .before .before .before .before .before .args .s .now) (w .before .before .before .before .before .before .before .before .before .args .base) (w .before .before .before .before .before .before .before .loop .i) (w .before .if2 .start) (w .before .if2 .len) (w .kind-at .result) (checkAt (w .before .before .before .before .before .before .before .before .before .args .depth) (w .before .before .before .before .before .before .before .before .before .args .base) (w .before .before .before .before .before .before .before .before .before .args .s .now))
+) (elements-at t) elements.Post elements-Inv-loop elements-μ-loop) → Found (w .before .before .before .before .before .before .before .before .loop .d) (w .before .before .before .before .before .before .before .before .before .before .args .s .now) (w .before .before .before .before .before .before .before .before .before .before .args .base) (w .before .before .before .before .before .before .before .before .loop .i) (w .before .if2 .start) (w .before .if2 .len) (w .kind-at .result) (checkAt (w .before .before .before .before .before .before .before .before .before .before .args .depth) (w .before .before .before .before .before .before .before .before .before .before .args .base) (w .before .before .before .before .before .before .before .before .before .before .args .s .now))
 found t w =
-    let s = w .before .before .before .before .before .before .before .before .before .args .s .now in
-    let room = told (w .before .before .before .before .before .no-room .ensures) (w .before .before .before .before .if1 .left) in
-    let level = eqb-false (w .before .before .before .before .before .before .before .loop .d) 0 (or-left (eqb (w .before .before .before .before .before .before .before .loop .d) 0) (ltb (length s - w .before .before .before .before .before .before .before .loop .i) 2) room) in
+    let l = w .before .before .before .before .before .before .before .before in
+    let s = l .before .before .args .s .now in
+    let room = told (w .before .before .before .before .before .before .no-room .ensures) (w .before .before .before .before .before .if1 .left) in
+    let level = eqb-false (l .loop .d) 0 (or-left (eqb (l .loop .d) 0) (ltb (length s - l .loop .i) 2) room) in
     record {
-      is = rw (w .kind-at .ensures) (element-kind (w .before .before .before .before .before .before .before .loop .d) (drop (w .before .before .before .before .before .before .before .loop .i) s) (w .before .if2 .start) (w .before .if2 .len) (read-here t (w .before)) level);
-      here = w .before .before .before .before .before .before .loop-test .taken;
-      so-far = w .before .before .before .before .before .before .before .loop .inv .2;
+      is = rw (w .kind-at .ensures) (element-kind (l .loop .d) (drop (l .loop .i) s) (w .before .if2 .start) (w .before .if2 .len) (read-here t (w .before)) level);
+      here = w .before .before .before .before .before .before .before .loop-test .taken;
+      so-far = l .loop .inv .2;
     }
 
 pub +elements-spec : {M : Type 1} → statement M
@@ -118,6 +129,8 @@ pub +elements-spec : {M : Type 1} → statement M
   broken-reads.Learnt,
   wide-reads.Asked,
   wide-reads.Learnt,
+  is-long-reads.Asked,
+  is-long-reads.Learnt,
   read-length-reads.Asked,
   read-length-reads.Learnt,
   kind-at-reads.Asked,
@@ -144,21 +157,22 @@ pub +elements-spec : {M : Type 1} → statement M
     (λ c. search tests)
     (λ c. omega (arith, two-left t (c .before)))
     (λ c κs. search tests)
+    (λ c κs. search tests)
     (λ c. search tests)
     (λ c. search tests)
     (λ c. search tests)
     (λ c κs. search tests)
-    (λ c κs. let l = c .before .before .before .before .before .before in
-    (c .before .before .before .before .before .loop-test .taken, omega (arith, read-here t c .small, length-drop (l .loop .i) (l .before .before .args .s .now), l .before .before .good .0 .1)))
+    (λ c κs. let l = c .before .before .before .before .before .before .before in
+    (c .before .before .before .before .before .before .loop-test .taken, omega (arith, read-here t c .small, length-drop (l .loop .i) (l .before .before .args .s .now), l .before .before .good .0 .1)))
     (λ c. search tests)
     (λ c. search tests)
     (λ c. search tests)
     (λ c. search tests)
     (λ c κs. search tests)
-    (λ c. let l = c .before .before .before .before .before .before .before .before .before .before in
+    (λ c. let l = c .before .before .before .before .before .before .before .before .before .before .before in
     ap (Fault (l .before .before .args .base + l .loop .i)) (rw (tail-is (l .before .before .args .s .now) (l .loop .i)) at (c .broken2 .ensures)) ∙ sym (kind-faulty (found t (c .before .before .before)) (c .before .before .if3 .taken)))
-    (λ c. omega (arith, read-here t (c .before .before .before) .small, length-drop (c .before .before .before .before .before .before .before .before .before .loop .i) (c .before .before .before .before .before .before .before .before .before .before .before .args .s .now), c .before .before .before .before .before .before .before .before .before .before .before .good .0 .1))
-    (λ c. omega (arith, read-here t (c .before .before .before .before) .small, length-drop (c .before .before .before .before .before .before .before .before .before .before .loop .i) (c .before .before .before .before .before .before .before .before .before .before .before .before .args .s .now), c .before .before .before .before .before .before .before .before .before .before .before .before .good .0 .1))
+    (λ c. omega (arith, read-here t (c .before .before .before) .small, length-drop (c .before .before .before .before .before .before .before .before .before .before .loop .i) (c .before .before .before .before .before .before .before .before .before .before .before .before .args .s .now), c .before .before .before .before .before .before .before .before .before .before .before .before .good .0 .1))
+    (λ c. omega (arith, read-here t (c .before .before .before .before) .small, length-drop (c .before .before .before .before .before .before .before .before .before .before .before .loop .i) (c .before .before .before .before .before .before .before .before .before .before .before .before .before .args .s .now), c .before .before .before .before .before .before .before .before .before .before .before .before .before .good .0 .1))
     (λ c. omega (arith, ends-in (found t (c .before .before .before .before)) (c .before .before .before .if3 .left) (c .if4 .taken)))
     (λ c. (omega (arith, ends-in (found t (c .before .before .before .before)) (c .before .before .before .if3 .left) (c .if4 .taken)), omega arith, goes-on (found t (c .before .before .before .before)) (c .before .before .before .if3 .left) (c .if4 .taken)))
     (λ c. omega (arith, holds-in (found t (c .before .before .before .before .before)) (c .before .before .before .before .if3 .left) (c .before .if4 .left)))
