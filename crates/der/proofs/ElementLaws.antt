@@ -1,12 +1,12 @@
 -- Laws of a run of elements: what stands at the loop's place, and that a fault lies inside the bytes that were checked.
-use Prim.Native.Nat.{ℕ, zero, suc, _+_, _-_, _/_, _%_, _<_, _≤_}
+use Prim.Native.Nat.{ℕ, zero, suc, _+_, _-_, _<_, _≤_}
 use mathlib.Core.Path.{_≡_, refl, sym, _∙_, ap, subst}
 use mathlib.Core.List.{List, [], _∷_}
-use mathlib.Core.Bool.{Bool, true, false, not, cond, _&&_, _||_, and-true, and-false}
-use native.Mathlib.Nat.{lt-irrefl, add-zero, add-assoc, add-sub-cancel-left, mod-eq-of-lt, div-eq-of-lt, mod-eq-sub-mod, div-eq-of-lt-le}
+use mathlib.Core.Bool.{Bool, true, false, not, _&&_}
+use native.Mathlib.Nat.{lt-irrefl, add-zero, add-assoc, add-sub-cancel-left}
 use native.Mathlib.Numerals.{sub-one}
 use native.Mathlib.Omega.{arith}
-use borrow.Author.Tests.{eqb-false, not-true, eq-eqb, ne-eqb, lt-ltb, le-ltb, lt-leb, le-leb, eqb-true}
+use borrow.Author.Tests.{eq-eqb, ne-eqb, eqb-false, not-true}
 use lib.ListN.{length, take, drop, length-drop, length-take, drop-of-length-le}
 use lib.Seq.{drop-drop, take-all}
 use lib.Dec.{eqb, lit≤, T}
@@ -18,7 +18,8 @@ use Rattle.der.specs.declared.element.Check.{Check}
 use Rattle.der.specs.declared.element.Check.the-variants.{Sound, Fault}
 use Rattle.der.specs.Head.{headOf}
 use Rattle.der.specs.Content.{contentOk}
-use Rattle.der.specs.Element.{constructed, formOk, judge, elementOf, sizeOf, andThen, withContent, run, contentAt, checkAt, primitiveOf}
+use Rattle.der.specs.Element.{constructed, formOk, judge, elementOf, sizeOf, andThen, withContent, run, contentAt, checkAt, ruleOf}
+use Rattle.der.proofs.KindLaws.{ofKind}
 use Rattle.der.proofs.HeadLaws.{HeadIn, head-in, cond-case, cond-both}
 
 -- an element takes at least two bytes and ends inside; a constructed one has a level left
@@ -74,44 +75,98 @@ unfolding contentAt checkAt
 content-check zero b s h = absurd (lt-irrefl 0 h)
 content-check (suc d) b s h = ap (λ (j : ℕ). run (contentAt j) j 0 b s) (sym (sub-one (suc d)))
 
--- where the loop is at i, with what the element there was found to be
-module _ (d : ℕ) (s : List ℕ) (b i : ℕ) {r : Element} (is : r ≡ elementOf d (drop i s)) (here : i < length s) (so-far : checkAt d b s ≡ checkAt d (b + i) (drop i s)) where
+nothing-more : (d b : ℕ) (v : Check) → andThen v (checkAt d b []) ≡ v
+unfolding checkAt run
+nothing-more d b Sound = refl
+nothing-more d b (Fault at rule) = refl
+
+-- where the loop is at i, with what the element there was found to be; `whole` is the check of all
+module _ (d : ℕ) (s : List ℕ) (b i : ℕ) {whole : Check} {r : Element} (is : r ≡ elementOf d (drop i s)) (here : i < length s) (so-far : whole ≡ checkAt d (b + i) (drop i s)) where
   left : 0 < length (drop i s)
   left = rw length-drop (omega arith)
 
-  pub primitive-in : {k : ℕ} → r ≡ Primitive k → (2 ≤ k) × (i + k ≤ length s)
+  primitive-in : {k : ℕ} → r ≡ Primitive k → (2 ≤ k) × (i + k ≤ length s)
   unfolding ElementIn
   primitive-in e = let w = subst (ElementIn d (length (drop i s))) (sym is ∙ e) (element-in d (drop i s)) in omega (arith, length-drop i s)
 
-  pub constructed-in : {start len : ℕ} → r ≡ Constructed start len → (2 ≤ start) × (i + start + len ≤ length s) × (0 < d)
+  constructed-in : {start len : ℕ} → r ≡ Constructed start len → (2 ≤ start) × (i + start + len ≤ length s) × (0 < d)
   unfolding ElementIn
   constructed-in e = let w = subst (ElementIn d (length (drop i s))) (sym is ∙ e) (element-in d (drop i s)) in omega (arith, length-drop i s)
 
-  pub at-faulty : {rule : ℕ} → r ≡ Faulty rule → checkAt d b s ≡ Fault (b + i) rule
+  pub at-faulty : {rule : ℕ} → r ≡ Faulty rule → whole ≡ Fault (b + i) rule
   at-faulty e = so-far ∙ first-is d (b + i) (drop i s) (sym is ∙ e) left (lit≤ tt)
 
-  pub at-primitive : {k : ℕ} → r ≡ Primitive k → checkAt d b s ≡ checkAt d (b + (i + k)) (drop (i + k) s)
+  at-primitive : {k : ℕ} → r ≡ Primitive k → whole ≡ checkAt d (b + (i + k)) (drop (i + k) s)
   at-primitive {k} e =
       so-far ∙ first-is d (b + i) (drop i s) (sym is ∙ e) left (omega (arith, primitive-in e))
       ∙ rw (drop-drop k i s, add-assoc b i k)
 
-  pub at-constructed : {start len : ℕ} → r ≡ Constructed start len → checkAt d b s ≡ andThen (checkAt (d - 1) (b + (i + start)) (take len (drop (i + start) s))) (checkAt d (b + (i + start + len)) (drop (i + start + len) s))
+  at-constructed : {start len : ℕ} → r ≡ Constructed start len → whole ≡ andThen (checkAt (d - 1) (b + (i + start)) (take len (drop (i + start) s))) (checkAt d (b + (i + start + len)) (drop (i + start + len) s))
   at-constructed {start} {len} e =
       so-far ∙ first-is d (b + i) (drop i s) (sym is ∙ e) left (omega (arith, constructed-in e))
       ∙ rw (content-check d (b + i + start) (take len (drop start (drop i s))) (constructed-in e .2), drop-drop start i s, drop-drop (start + len) i s) (simp add-assoc)
 
+  -- it is the last: its content is checked in its place
+  at-last : {start len : ℕ} → r ≡ Constructed start len → i + start + len ≡ length s → whole ≡ checkAt (d - 1) (b + (i + start)) (drop (i + start) s)
+  at-last {start} {len} e end =
+      let all : length s ≤ i + start + len = omega arith in
+      at-constructed e
+      ∙ rw (drop-of-length-le s all, take-all len (drop (i + start) s) (omega (arith, length-drop (i + start) s)))
+      (nothing-more d (b + (i + start + len)) (checkAt (d - 1) (b + (i + start)) (drop (i + start) s)))
+
   -- with what the call on its content, `&s[a..e]`, answered
   module _ {start len : ℕ} (e : r ≡ Constructed start len) {inner : Check} (calls : inner ≡ checkAt (d - 1) (b + (i + start)) (take (i + start + len - (i + start)) (drop (i + start) s))) where
-    called : checkAt d b s ≡ andThen inner (checkAt d (b + (i + start + len)) (drop (i + start + len) s))
+    called : whole ≡ andThen inner (checkAt d (b + (i + start + len)) (drop (i + start + len) s))
     called = at-constructed e ∙ sym (ap (λ (v : Check). andThen v (checkAt d (b + (i + start + len)) (drop (i + start + len) s))) (simp add-sub-cancel-left at calls))
 
-    pub at-sound : inner ≡ Sound → checkAt d b s ≡ checkAt d (b + (i + start + len)) (drop (i + start + len) s)
+    at-sound : inner ≡ Sound → whole ≡ checkAt d (b + (i + start + len)) (drop (i + start + len) s)
     at-sound f = called ∙ ap (λ (v : Check). andThen v (checkAt d (b + (i + start + len)) (drop (i + start + len) s))) f
 
-    pub at-fault : {at rule : ℕ} → inner ≡ Fault at rule → inner ≡ checkAt d b s
+    at-fault : {at rule : ℕ} → inner ≡ Fault at rule → inner ≡ whole
     at-fault f = f ∙ sym (called ∙ ap (λ (v : Check). andThen v (checkAt d (b + (i + start + len)) (drop (i + start + len) s))) f)
 
-pub check-end : (d b : ℕ) (s : List ℕ) (i : ℕ) → length s ≤ i → checkAt d b s ≡ checkAt d (b + i) (drop i s) → Sound ≡ checkAt d b s
+-- ---- the same by the element's kind, a number
+
+-- the element at i has its content `len` bytes from i + start on and is of kind k; `whole` is the check of all
+pub record Found (d : ℕ) (s : List ℕ) (b i start len k : ℕ) (whole : Check) : Type 0 where
+  pub is : elementOf d (drop i s) ≡ ofKind d (drop i s) start len k
+  pub here : i < length s
+  pub so-far : whole ≡ checkAt d (b + i) (drop i s)
+
+module _ {d : ℕ} {s : List ℕ} {b i start len k : ℕ} {whole : Check} (f : Found d s b i start len k whole) where
+  pub kind-faulty : k ≡ 2 → whole ≡ Fault (b + i) (ruleOf d (headOf (drop i s)))
+  kind-faulty e = at-faulty d s b i (sym (f .is)) (f .here) (f .so-far) (simp (eq-eqb k 2 e))
+
+  module _ (sound : k ≡ 2 → ⊥) where
+    as-primitive : k ≡ 0 → ofKind d (drop i s) start len k ≡ Primitive (start + len)
+    as-primitive e = simp (ne-eqb k 2 sound, eq-eqb k 0 e)
+
+    as-constructed : (k ≡ 0 → ⊥) → ofKind d (drop i s) start len k ≡ Constructed start len
+    as-constructed n = simp (ne-eqb k 2 sound, ne-eqb k 0 n)
+
+    -- a primitive one: the loop goes on behind it
+    pub ends-in : k ≡ 0 → (0 < start + len) × (i + start + len ≤ length s)
+    ends-in e = omega (arith, primitive-in d s b i (sym (f .is)) (f .here) (f .so-far) (as-primitive e))
+
+    pub goes-on : k ≡ 0 → whole ≡ checkAt d (b + (i + start + len)) (drop (i + start + len) s)
+    goes-on e = at-primitive d s b i (sym (f .is)) (f .here) (f .so-far) (as-primitive e) ∙ rw (← add-assoc i start len)
+
+    -- a constructed one
+    module _ (n : k ≡ 0 → ⊥) where
+      pub holds-in : (0 < start) × (i + start + len ≤ length s) × (0 < d)
+      holds-in = omega (arith, constructed-in d s b i (sym (f .is)) (f .here) (f .so-far) (as-constructed n))
+
+      pub goes-in : i + start + len ≡ length s → whole ≡ checkAt (d - 1) (b + (i + start)) (drop (i + start) s)
+      goes-in e = at-last d s b i (sym (f .is)) (f .here) (f .so-far) (as-constructed n) e
+
+      module _ {inner : Check} (calls : inner ≡ checkAt (d - 1) (b + (i + start)) (take (i + start + len - (i + start)) (drop (i + start) s))) where
+        pub goes-past : inner ≡ Sound → whole ≡ checkAt d (b + (i + start + len)) (drop (i + start + len) s)
+        goes-past e = at-sound d s b i (sym (f .is)) (f .here) (f .so-far) (as-constructed n) calls e
+
+        pub hands-on : {at rule : ℕ} → inner ≡ Fault at rule → inner ≡ whole
+        hands-on e = at-fault d s b i (sym (f .is)) (f .here) (f .so-far) (as-constructed n) calls e
+
+pub check-end : (d b : ℕ) (s : List ℕ) (i : ℕ) {whole : Check} → length s ≤ i → whole ≡ checkAt d (b + i) (drop i s) → Sound ≡ whole
 unfolding checkAt run
 check-end d b s i h e = sym (e ∙ rw (drop-of-length-le s h))
 
@@ -154,66 +209,3 @@ content-in (suc d) b s = run-in (contentAt d) (content-in d) d 0 b s
 pub fault-in : (d b : ℕ) (s : List ℕ) {at rule : ℕ} → checkAt d b s ≡ Fault at rule → (b ≤ at) × (at < b + length s)
 unfolding checkAt FaultIn
 fault-in d b s e = subst (FaultIn b (length s)) e (run-in (contentAt d) (content-in d) d 0 b s)
-
--- ## Universal tags by their ranges
-
--- two tests of numbers that hold together
-same-test : (a b c d : ℕ) → (a ≡ b → c ≡ d) → (c ≡ d → a ≡ b) → eqb a b ≡ eqb c d
-same-test a b c d f g = go (eqb a b) refl
-  where
-    go : (x : Bool) → eqb a b ≡ x → eqb a b ≡ eqb c d
-    go true q = q ∙ sym (eq-eqb c d (f (eqb-true a b q)))
-    go false q = q ∙ sym (ne-eqb c d (λ e. eqb-false a b q (g e)))
-
-itself : (b : Bool) → cond b true false ≡ b
-itself true = refl
-itself false = refl
-
-turned {ℓ} : {A : Type ℓ} (b : Bool) (x y : A) → cond (cond b false true && true) x y ≡ cond b y x
-turned true x y = refl
-turned false x y = refl
-
-form-low : (t : ℕ) → t < 32 → formOk t ≡ cond (eqb t 16 || eqb t 17) false true
-unfolding formOk
-form-low t h = simp (lt-leb 64 t (omega arith), mod-eq-of-lt h, lt-ltb t 32 h, lt-leb 32 t h)
-
-constructed-low : (t : ℕ) → t < 32 → constructed t ≡ false
-constructed-low t h = simp (div-eq-of-lt h)
-
-low-bits : (t : ℕ) → 32 ≤ t → t < 64 → t % 32 ≡ t - 32
-low-bits t l h = mod-eq-sub-mod l ∙ mod-eq-of-lt (omega arith)
-
-form-mid : (t : ℕ) → 32 ≤ t → t < 64 → formOk t ≡ (eqb t 48 || eqb t 49)
-unfolding formOk
-form-mid t l h =
-    simp (lt-leb 64 t h, low-bits t l h, same-test (t - 32) 16 t 48 (λ e. omega arith) (λ e. omega arith), same-test (t - 32) 17 t 49 (λ e. omega arith) (λ e. omega arith), le-leb 32 t l, le-ltb t 32 l)
-    (itself (eqb t 48 || eqb t 49))
-
-constructed-mid : (t : ℕ) → 32 ≤ t → t < 64 → constructed t ≡ true
-constructed-mid t l h = simp (div-eq-of-lt-le {k = 1} 32 {m = t} (omega arith) (omega arith))
-
--- where a level is left
-module _ (d : ℕ) (s : List ℕ) (start len : ℕ) (level : d ≡ 0 → ⊥) where
-  pub judge-low : (tag : ℕ) → tag < 32 → judge d s (Whole tag start len) ≡ primitiveOf s tag start len
-  unfolding judge primitiveOf
-  judge-low tag h = simp (form-low tag h, constructed-low tag h, ne-eqb d 0 level) (turned (eqb tag 16 || eqb tag 17) _ _)
-
-  pub judge-mid : (tag : ℕ) → 32 ≤ tag → tag < 64 → judge d s (Whole tag start len) ≡ cond (eqb tag 48 || eqb tag 49) (Constructed start len) (Faulty 3)
-  unfolding judge
-  judge-mid tag l h = simp (form-mid tag l h, constructed-mid tag l h, ne-eqb d 0 level, and-true)
-
--- with none left
-pub judge-none : (d : ℕ) (s : List ℕ) (tag start len : ℕ) → d ≡ 0 → judge d s (Whole tag start len) ≡ Faulty 3
-unfolding judge
-judge-none d s tag start len e = simp (eq-eqb d 0 e, and-false)
-
--- the other classes, by the constructed bit; a primitive one is opaque
-module _ (d : ℕ) (s : List ℕ) (tag start len : ℕ) (level : d ≡ 0 → ⊥) (high : 64 ≤ tag) where
-  pub judge-constructed : tag / 32 % 2 ≡ 1 → judge d s (Whole tag start len) ≡ Constructed start len
-  unfolding judge formOk
-  judge-constructed e = simp (le-leb 64 tag high, ne-eqb d 0 level, e)
-
-  pub judge-opaque : (tag / 32 % 2 ≡ 1 → ⊥) → judge d s (Whole tag start len) ≡ Primitive (start + len)
-  unfolding judge formOk contentOk
-  judge-opaque n =
-      simp (le-leb 64 tag high, ne-eqb d 0 level, ne-eqb (tag / 32 % 2) 1 n, ne-eqb tag 1 (λ e. omega arith), ne-eqb tag 2 (λ e. omega arith), ne-eqb tag 3 (λ e. omega arith), ne-eqb tag 5 (λ e. omega arith), ne-eqb tag 6 (λ e. omega arith))

@@ -67,30 +67,30 @@ pub packed-inside : (n tag start len : ℕ) → packedOf (inside n tag start len
 unfolding inside
 packed-inside n tag start len = cond-both (λ (h : Head). packedOf h ≡ fitOf n start len) (leb (start + len) n) (λ e. simp e) (λ e. simp e)
 
--- what a number says of its head: 0 that it is bad, and any other where the content is
-unfoldable Packs : List ℕ → Head → Type 0
-Packs s (Bad rule) = rule ≡ brokenRule s
-Packs s (Whole tag start len) = (tag ≡ byte s 0) × (2 ≤ start) × (start ≤ 4)
+-- what a number says of its head: 0 that it is bad, by rule r, and any other where the content is
+unfoldable Packs : ℕ → List ℕ → Head → Type 0
+Packs r s (Bad rule) = rule ≡ r
+Packs r s (Whole tag start len) = (tag ≡ byte s 0) × (2 ≤ start) × (start ≤ 4)
 
-inside-packs : (s : List ℕ) (start len : ℕ) → brokenRule s ≡ 2 → 2 ≤ start → start ≤ 4 → Packs s (inside (length s) (byte s 0) start len)
+inside-packs : (r : ℕ) (s : List ℕ) (start len : ℕ) → r ≡ 2 → 2 ≤ start → start ≤ 4 → Packs r s (inside (length s) (byte s 0) start len)
 unfolding inside Packs
-inside-packs s start len b h k = cond-both (Packs s) (leb (start + len) (length s)) (λ e. (refl, h, k)) (λ e. sym b)
+inside-packs r s start len b h k = cond-both (Packs r s) (leb (start + len) (length s)) (λ e. (refl, h, k)) (λ e. sym b)
 
-length-packs : (s : List ℕ) → brokenRule s ≡ 2 → Packs s (lengthOf s)
+length-packs : (r : ℕ) (s : List ℕ) → r ≡ 2 → Packs r s (lengthOf s)
 unfolding lengthOf oneByte twoBytes Packs
-length-packs s b =
-    let P : Head → Type 0 = Packs s in
+length-packs r s b =
+    let P : Head → Type 0 = Packs r s in
     let bad : P (Bad 2) = sym b in
     cond-case P (ltb (length s) 2) bad
-    (cond-case P (ltb (byte s 1) 128) (inside-packs s 2 (byte s 1) b (lit≤ tt) (lit≤ tt))
-    (cond-case P (eqb (byte s 1) 129) (cond-case P (ltb (length s) 3 || ltb (byte s 2) 128) bad (inside-packs s 3 (byte s 2) b (lit≤ tt) (lit≤ tt)))
-    (cond-case P (eqb (byte s 1) 130) (cond-case P (ltb (length s) 4 || eqb (byte s 2) 0) bad (inside-packs s 4 (byte s 2 * 256 + byte s 3) b (lit≤ tt) (lit≤ tt))) bad)))
+    (cond-case P (ltb (byte s 1) 128) (inside-packs r s 2 (byte s 1) b (lit≤ tt) (lit≤ tt))
+    (cond-case P (eqb (byte s 1) 129) (cond-case P (ltb (length s) 3 || ltb (byte s 2) 128) bad (inside-packs r s 3 (byte s 2) b (lit≤ tt) (lit≤ tt)))
+    (cond-case P (eqb (byte s 1) 130) (cond-case P (ltb (length s) 4 || eqb (byte s 2) 0) bad (inside-packs r s 4 (byte s 2 * 256 + byte s 3) b (lit≤ tt) (lit≤ tt))) bad)))
 
-head-packs : (s : List ℕ) → Packs s (headOf s)
+head-packs : (s : List ℕ) → Packs (brokenRule s) s (headOf s)
 unfolding headOf Packs brokenRule
 head-packs s =
-    cond-both (Packs s) (eqb (length s) 0) (λ e. simp e) λ e.
-    cond-both (Packs s) (tagOk (byte s 0)) (λ u. length-packs s (simp (e, u))) (λ u. simp (e, u))
+    cond-both (Packs (brokenRule s) s) (eqb (length s) 0) (λ e. simp e) λ e.
+    cond-both (Packs (brokenRule s) s) (tagOk (byte s 0)) (λ u. length-packs (brokenRule s) s (simp (e, u))) (λ u. simp (e, u))
 
 -- the two parts of such a number
 pub unpacked : (start len : ℕ) {p : ℕ} → start < 8 → p ≡ len * 8 + start → (p % 8 ≡ start) × (p / 8 ≡ len)
@@ -99,25 +99,36 @@ unpacked start len small e = (
   ap (λ (k : ℕ). k / 8) e ∙ mul-add-div-right (lit< tt) len start ∙ ap (λ (k : ℕ). len + k) (div-eq-of-lt small) ∙ add-zero len,
 )
 
-whole-of : (s : List ℕ) (h : Head) → Packs s h → {p : ℕ} → p ≡ packedOf h → (p ≡ 0 → ⊥) → h ≡ Whole (byte s 0) (p % 8) (p / 8)
+whole-of : (r : ℕ) (s : List ℕ) (h : Head) → Packs r s h → {p : ℕ} → p ≡ packedOf h → (p ≡ 0 → ⊥) → h ≡ Whole (byte s 0) (p % 8) (p / 8)
 unfolding Packs
-whole-of s (Bad rule) w e n = absurd (n e)
-whole-of s (Whole tag start len) w {p} e n =
+whole-of r s (Bad rule) w e n = absurd (n e)
+whole-of r s (Whole tag start len) w {p} e n =
     let u = unpacked start len (omega arith) e in cc (u .0, u .1)
 
-bad-of : (s : List ℕ) (h : Head) → Packs s h → 0 ≡ packedOf h → h ≡ Bad (brokenRule s)
+bad-of : (r : ℕ) (s : List ℕ) (h : Head) → Packs r s h → 0 ≡ packedOf h → h ≡ Bad r
 unfolding Packs
-bad-of s (Bad rule) w e = ap Bad w
-bad-of s (Whole tag start len) w e = absurd (omega arith)
+bad-of r s (Bad rule) w e = ap Bad w
+bad-of r s (Whole tag start len) w e = absurd (omega arith)
 
 -- what a number other than 0 packs, and what 0 does
 pub packed-whole : (s : List ℕ) {p : ℕ} → p ≡ packedOf (headOf s) → (p ≡ 0 → ⊥) → headOf s ≡ Whole (byte s 0) (p % 8) (p / 8)
-packed-whole s e n = whole-of s (headOf s) (head-packs s) e n
+packed-whole s e n = whole-of (brokenRule s) s (headOf s) (head-packs s) e n
 
 pub packed-bad : (s : List ℕ) {p : ℕ} → p ≡ packedOf (headOf s) → p ≡ 0 → headOf s ≡ Bad (brokenRule s)
-packed-bad s e z = bad-of s (headOf s) (head-packs s) (sym z ∙ e)
+packed-bad s e z = bad-of (brokenRule s) s (headOf s) (head-packs s) (sym z ∙ e)
+
+-- the same of a length, whatever the tag
+pub length-whole : (s : List ℕ) {p : ℕ} → p ≡ packedOf (lengthOf s) → (p ≡ 0 → ⊥) → lengthOf s ≡ Whole (byte s 0) (p % 8) (p / 8)
+length-whole s e n = whole-of 2 s (lengthOf s) (length-packs 2 s refl) e n
+
+pub length-bad : (s : List ℕ) {p : ℕ} → p ≡ packedOf (lengthOf s) → p ≡ 0 → lengthOf s ≡ Bad 2
+length-bad s e z = bad-of 2 s (lengthOf s) (length-packs 2 s refl) (sym z ∙ e)
+
+pub length-fits : (s : List ℕ) {tag start len : ℕ} → lengthOf s ≡ Whole tag start len → (2 ≤ start) × (start ≤ 4) × (start + len ≤ length s)
+unfolding HeadIn
+length-fits s e = subst (HeadIn (length s)) e (length-in s)
 
 -- the tag of a whole head is its first byte
 pub whole-tag : (s : List ℕ) {tag start len : ℕ} → headOf s ≡ Whole tag start len → tag ≡ byte s 0
 unfolding Packs
-whole-tag s e = subst (Packs s) e (head-packs s) .0
+whole-tag s e = subst (Packs (brokenRule s) s) e (head-packs s) .0

@@ -33,6 +33,15 @@ arcsOk fresh (x ∷ c) = not (fresh && eqb x 128) && arcsOk (ltb x 128) c
 unfoldable pub begins : List ℕ → ℕ → Bool
 begins c i = cond (eqb i 0) true (ltb (byte c (i - 1)) 128)
 
+-- byte i is 80
+abbrev pub at80 : List ℕ → ℕ → Bool
+at80 c i = eqb (byte c i) 128
+
+-- some byte is 80: if none is, the last byte decides (`arcs-plain` in proofs/ContentLaws.antt)
+unfoldable pub has80 : List ℕ → Bool
+has80 [] = false
+has80 (x ∷ c) = eqb x 128 || has80 c
+
 -- OBJECT IDENTIFIER: at least one byte, no arc beginning 80, last byte below 80 (X.690 8.19.2)
 unfoldable pub oidOk : List ℕ → Bool
 oidOk c = not (eqb (length c) 0) && arcsOk true c

@@ -10,7 +10,7 @@ use Rattle.der.specs.declared.element.Element.{Element}
 use Rattle.der.specs.declared.element.Element.the-variants.{Primitive, Constructed, Faulty}
 use Rattle.der.specs.declared.element.Check.{Check}
 use Rattle.der.specs.declared.element.Check.the-variants.{Sound, Fault}
-use Rattle.der.specs.Head.{headOf}
+use Rattle.der.specs.Head.{byte, tagOk, headOf}
 use Rattle.der.specs.Content.{contentOk}
 
 -- A nest is at most 16 elements deep, the message being depth 1.
@@ -35,14 +35,23 @@ judge d s (Whole tag start len) =
     (cond (contentOk tag (take len (drop start s))) (Primitive (start + len)) (Faulty 4)))
     (Faulty 3)
 
--- the same of a universal tag below 32 where a level is left
-unfoldable pub primitiveOf : List ℕ → ℕ → ℕ → ℕ → Element
-primitiveOf s tag start len =
-    cond (eqb tag 16 || eqb tag 17) (Faulty 3) (cond (contentOk tag (take len (drop start s))) (Primitive (start + len)) (Faulty 4))
-
 -- the element that s begins with, by itself
 unfoldable pub elementOf : ℕ → List ℕ → Element
 elementOf d s = judge d s (headOf s)
+
+-- The same as numbers. What an element with this tag and content is, wherever it stands: 0 a primitive one, 1 a constructed one,
+-- 2 a faulty one.
+unfoldable pub kindOf : ℕ → List ℕ → ℕ
+kindOf tag c = cond (tagOk tag && formOk tag) (cond (constructed tag) 1 (cond (contentOk tag c) 0 2)) 2
+
+-- the element that s begins with, its content `len` bytes from `start` on; start is 0 where its length is bad
+unfoldable pub kindIn : List ℕ → ℕ → ℕ → ℕ
+kindIn s start len = cond (eqb start 0) 2 (cond (ltb (length s) (start + len)) 2 (kindOf (byte s 0) (take len (drop start s))))
+
+-- the rule that a faulty element with this tag and length breaks
+unfoldable pub ruleOf : ℕ → Head → ℕ
+ruleOf d (Bad rule) = rule
+ruleOf d (Whole tag start len) = cond (formOk tag && not (eqb d 0)) 4 3
 
 -- how many bytes it takes (after a faulty one nothing is read)
 abbrev pub sizeOf : Element → ℕ

@@ -2,12 +2,14 @@
 use crate::content::content_ok;
 use crate::head;
 use crate::head::Head;
+use crate::head::wide;
 ghost use mathlib.Core.Path.{_≡_};
-ghost use mathlib.Core.Bool.{cond, _||_};
-ghost use Prim.Native.Nat.{_+_, _^_, _<_, _≤_};
-ghost use lib.Dec.{eqb};
+ghost use mathlib.Core.Bool.{_||_};
+ghost use Prim.Native.Nat.{_+_, _^_, _<_};
+ghost use lib.Dec.{ltb, eqb};
 ghost use lib.ListN.{length, drop};
-ghost use Rattle.der.specs.Element.{primitiveOf, judge, elementOf, checkAt, check, fills, isElement};
+ghost use Rattle.der.specs.Head.{headOf};
+ghost use Rattle.der.specs.Element.{formOk, kindOf, kindIn, ruleOf, checkAt, check, fills, isElement};
 
 // At most so many elements deep, the message being depth 1.
 pub const MAX_DEPTH: u8 = 16;
@@ -28,98 +30,128 @@ pub enum Check {
     Fault(usize, u8),
 }
 
-// A universal element whose tag is 32 to 63: only SEQUENCE and SET are constructed.
-fn sequence_or_set(tag: u8, start: usize, len: usize) -> Element
-    ensures { λ r. ⌜ r ≡ cond (eqb tag 48 || eqb tag 49) (Element.Constructed start len) (Element.Faulty 3) ⌝ }
+// Universal tags are primitive, but for SEQUENCE and SET; other classes may be either.
+fn form_ok(tag: u8) -> bool
+    ensures { λ r. ⌜ r ≡ formOk tag ⌝ }
+{
+    if 63 < tag {
+        return true;
+    }
+    if 31 < tag {
+        if tag == 48 {
+            return true;
+        }
+        return tag == 49;
+    }
+    if tag == 16 {
+        return false;
+    }
+    if tag == 17 { false } else { true }
+}
+
+// What an element with this tag and content is, wherever it stands: 0 a primitive one, 1 a constructed one, 2 a faulty one.
+fn kind(tag: u8, c: &[u8]) -> usize
+    ensures { λ r. ⌜ r ≡ kindOf tag (now (c .entry)) ⌝ }
 {
     if tag == 48 {
-        return Element::Constructed(start, len);
+        return 1;
     }
-    if tag == 49 {
-        return Element::Constructed(start, len);
+    if tag < 7 {
+        if content_ok(tag, c) {
+            return 0;
+        }
+        return 2;
     }
-    Element::Faulty(3)
+    if tag % 32 == 31 {
+        return 2;
+    }
+    if form_ok(tag) {
+        if tag / 32 % 2 == 1 {
+            return 1;
+        }
+        return 0;
+    }
+    2
 }
 
-// A universal element whose tag is below 32: a primitive one.
-fn primitive(s: &[u8], tag: u8, start: usize, len: usize) -> Element
-    requires { ⌜ start + len ≤ length (now s) ⌝ }
-    ensures { λ r. ⌜ r ≡ primitiveOf (now (s .entry)) tag start len ⌝ }
+// The same of the element at i, whose content is `len` bytes from i + start on; faulty where start is 0, its length being bad, and
+// where it does not fit.
+fn kind_at(s: &[u8], i: usize, start: usize, len: usize) -> usize
+    requires { ⌜ (i < length (now s)) × (i + start + len < 2 ^ 64) ⌝ }
+    ensures { λ r. ⌜ r ≡ kindIn (drop i (now (s .entry))) start len ⌝ }
 {
-    if tag == 16 {
-        return Element::Faulty(3);
+    if start == 0 {
+        return 2;
     }
-    if tag == 17 {
-        return Element::Faulty(3);
+    let a = i + start;
+    let e = a + len;
+    if s.len() < e {
+        return 2;
     }
-    let end = start + len;
-    if content_ok(tag, &s[start..end]) {
-        return Element::Primitive(end);
-    }
-    Element::Faulty(4)
+    kind(s[i], &s[a..e])
 }
 
-fn judge_whole(s: &[u8], depth: u8, tag: u8, start: usize, len: usize) -> Element
-    requires { ⌜ start + len ≤ length (now s) ⌝ }
-    ensures { λ r. ⌜ r ≡ judge depth (now (s .entry)) (Head.Whole tag start len) ⌝ }
-{
-    if depth == 0 {
-        return Element::Faulty(3);
-    }
-    if tag < 32 {
-        return primitive(s, tag, start, len);
-    }
-    if tag < 64 {
-        return sequence_or_set(tag, start, len);
-    }
-    if tag / 32 % 2 == 1 {
-        return Element::Constructed(start, len);
-    }
-    Element::Primitive(start + len)
-}
-
-fn first(s: &[u8], depth: u8) -> Element
-    ensures { λ r. ⌜ r ≡ elementOf depth (now (s .entry)) ⌝ }
+// The rule that the faulty element at the start of `s` breaks.
+fn broken(s: &[u8], depth: u8) -> u8
+    ensures { λ r. ⌜ r ≡ ruleOf depth (headOf (now (s .entry))) ⌝ }
 {
     let p = head::packed(s);
     if p == 0 {
-        return Element::Faulty(head::broken_rule(s));
+        return head::broken_rule(s);
     }
-    judge_whole(s, depth, head::first_byte(s), p % 8, p / 8)
+    if depth == 0 {
+        return 3;
+    }
+    if form_ok(head::first_byte(s)) { 4 } else { 3 }
 }
 
-fn first_at(s: &[u8], at: usize, depth: u8) -> Element
-    requires { ⌜ at ≤ length (now s) ⌝ }
-    ensures { λ r. ⌜ r ≡ elementOf depth (drop at (now (s .entry))) ⌝ }
+// No element may stand here: no level is left, or less than the two bytes that one takes.
+fn no_room(depth: u8, left: usize) -> bool
+    ensures { λ r. ⌜ r ≡ (eqb depth 0 || ltb left 2) ⌝ }
 {
-    first(&s[at..], depth)
+    if depth == 0 {
+        return true;
+    }
+    left < 2
 }
 
-// The elements of `s`, which stands at offset `base` of the message, where `depth` levels are left.
+// The elements of `s`, which stands at offset `base` of the message, where `depth` levels are left. The last element's content is
+// checked in the same loop, a level deeper; any other's by a call.
 fn elements(s: &[u8], base: usize, depth: u8) -> Check
     requires { ⌜ base + length (now s) < 2 ^ 64 ⌝ }
     ensures { λ r. ⌜ r ≡ checkAt depth base (now (s .entry)) ⌝ }
 {
     let n = s.len();
     let mut i = 0;
+    let mut d = depth;
     while i < n {
-        let o = first_at(s, i, depth);
-        match o {
-            Element::Faulty(rule) => {
-                return Check::Fault(base + i, rule);
-            }
-            Element::Primitive(size) => {
-                i += size;
-            }
-            Element::Constructed(start, len) => {
-                let a = i + start;
-                let e = a + len;
-                let inner = elements(&s[a..e], base + a, depth - 1);
-                let Check::Sound = inner else {
-                    return inner;
-                };
-                i = e;
-            }
+        if no_room(d, n - i) {
+            return Check::Fault(base + i, broken(&s[i..], d));
+        }
+        let mut start = head::SHORT;
+        let mut len = wide(s[i + 1]);
+        if head::is_long(len) {
+            let p = head::read_length(&s[i..]);
+            start = p % 8;
+            len = p / 8;
+        }
+        let k = kind_at(s, i, start, len);
+        if k == 2 {
+            return Check::Fault(base + i, broken(&s[i..], d));
+        }
+        let a = i + start;
+        let e = a + len;
+        if k == 0 {
+            i = e;
+        } else if e == n {
+            i = a;
+            d -= 1;
+        } else {
+            let inner = elements(&s[a..e], base + a, d - 1);
+            let Check::Sound = inner else {
+                return inner;
+            };
+            i = e;
         }
     }
     Check::Sound

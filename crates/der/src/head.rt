@@ -1,6 +1,7 @@
 // Tag and length of an element: points 1 and 2 of document 01, "DER as we take it".
 ghost use mathlib.Core.Path.{_≡_};
 ghost use Prim.Native.Nat.{_<_};
+ghost use lib.Dec.{ltb};
 ghost use Rattle.der.specs.Head.{byte, tagOk, fitOf, oneByte, twoBytes, lengthOf, headOf, packedOf, brokenRule};
 
 // An element whose content is `len` bytes from `start`, or the rule that its tag and length break.
@@ -10,7 +11,7 @@ pub enum Head {
 }
 
 // A byte as a number to count with.
-fn wide(x: u8) -> usize
+pub(crate) fn wide(x: u8) -> usize
     ensures { λ r. ⌜ (r ≡ x) × (r < 256) ⌝ }
 {
     x as usize
@@ -66,7 +67,18 @@ fn two_bytes(s: &[u8]) -> usize
     fit(n, 4, wide(a) * 256 + wide(s[3]))
 }
 
-fn read_length(s: &[u8]) -> usize
+// The bytes that tag and length take where the length is short.
+pub(crate) const SHORT: usize = 2;
+
+// Whether the first byte of a length says that more bytes follow; a short length is that byte itself.
+pub(crate) fn is_long(first: usize) -> bool
+    ensures { λ r. ⌜ r ≡ ltb 127 first ⌝ }
+{
+    127 < first
+}
+
+// The length alone as one number, the tag not looked at.
+pub(crate) fn read_length(s: &[u8]) -> usize
     ensures { λ r. ⌜ r ≡ packedOf (lengthOf (now (s .entry))) ⌝ }
 {
     let n = s.len();

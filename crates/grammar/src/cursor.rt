@@ -150,11 +150,21 @@ pub(crate) fn enter(c: Cursor) -> Cursor
     }
 }
 
-// Back out of it, with a fault that was met inside.
+// Back out of it, with a fault that was met inside. Field by field: a choice between two whole cursors would keep both in memory.
 pub(crate) fn leave(outer: Cursor, inner: Cursor) -> Cursor
     ensures { λ r. ⌜ r ≡ leaveOf outer inner ⌝ }
 {
-    if inner.rule == 0 { outer } else { inner }
+    if inner.rule == 0 {
+        Cursor {
+            at: outer.at,
+            end: outer.end,
+            from: outer.from,
+            to: outer.to,
+            rule: outer.rule,
+        }
+    } else {
+        inner
+    }
 }
 
 // From one offset up to another.

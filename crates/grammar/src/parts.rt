@@ -132,7 +132,7 @@ fn sequence_typed(m: &[u8], c: Cursor) -> Cursor
 }
 
 // A SEQUENCE of one or more.
-pub(crate) fn sequence_of(m: &[u8], c: Cursor, what: Each) -> Cursor
+fn sequence_of(m: &[u8], c: Cursor, what: Each) -> Cursor
     ensures { λ r. ⌜ r ≡ sequenceOf (now (m .entry)) what c ⌝ }
 {
     match what {
@@ -204,7 +204,7 @@ pub(crate) fn maybe_text(m: &[u8], c: Cursor) -> Cursor
 {
     let t = tag_at(m, c);
     if t == 0x30 {
-        sequence_of(m, c, Each::Text)
+        sequence_tagged(m, c, 0x0C)
     } else {
         none(c)
     }

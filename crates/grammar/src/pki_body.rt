@@ -24,7 +24,9 @@ use crate::parts::span_from;
 use crate::parts::status_info;
 use crate::parts::whole_span;
 ghost use mathlib.Core.Path.{_≡_};
+ghost use mathlib.Core.Bool.{_||_};
 ghost use Prim.Native.Nat.{_-_, _≤_};
+ghost use lib.Dec.{eqb};
 ghost use Rattle.grammar.specs.Body.{plain, fromEntries, atLeastOne, requestsOf, responsesOf, confirmationsOf, errorOf, otherOf, p10crOf, contentsOf, bodyTag, bodyOf};
 
 // What a body holds.
@@ -163,25 +165,39 @@ fn other(m: &[u8], c: Cursor, kind: u8) -> Contents
     plain_contents(any(m, c))
 }
 
+// ir, cr and kur.
+fn is_request(kind: u8) -> bool
+    ensures { λ r. ⌜ r ≡ (eqb kind 0 || (eqb kind 2 || eqb kind 7)) ⌝ }
+{
+    if kind == 0 {
+        return true;
+    }
+    if kind == 2 {
+        return true;
+    }
+    kind == 7
+}
+
+// ip, cp and kup.
+fn is_response(kind: u8) -> bool
+    ensures { λ r. ⌜ r ≡ (eqb kind 1 || (eqb kind 3 || eqb kind 8)) ⌝ }
+{
+    if kind == 1 {
+        return true;
+    }
+    if kind == 3 {
+        return true;
+    }
+    kind == 8
+}
+
 fn contents_of(m: &[u8], c: Cursor, kind: u8) -> Contents
     ensures { λ r. ⌜ r ≡ contentsOf (now (m .entry)) kind c ⌝ }
 {
-    if kind == 0 {
+    if is_request(kind) {
         return requests(m, c);
     }
-    if kind == 1 {
-        return responses(m, c);
-    }
-    if kind == 2 {
-        return requests(m, c);
-    }
-    if kind == 3 {
-        return responses(m, c);
-    }
-    if kind == 7 {
-        return requests(m, c);
-    }
-    if kind == 8 {
+    if is_response(kind) {
         return responses(m, c);
     }
     if kind == 23 {

@@ -1,26 +1,58 @@
-use Rattle.der.proofs.Auto.{tests}
-use Rattle.grammar.specs.Body.{contentsOf}
+-- The kinds by their groups, each with one call.
+use Prim.Native.Nat.{ℕ}
+use mathlib.Core.Path.{_≡_, _∙_, refl, sym, subst}
+use mathlib.Core.List.{List}
+use mathlib.Core.Bool.{Bool, true, false, cond, _||_}
+use borrow.Author.Tests.{eqb-true}
+use lib.Dec.{eqb}
+use Rattle.der.proofs.Auto.{tests, told, or-left, or-right}
+use Rattle.grammar.specs.declared.cursor.Cursor.{Cursor}
+use Rattle.grammar.specs.declared.pki_body.Contents.{Contents}
+use Rattle.grammar.specs.Body.{requestsOf, responsesOf, errorOf, confirmationsOf, otherOf, contentsOf}
 use Rattle.grammar.proofs.pki_body.contents_of.Statement.{statement}
 use Rattle.grammar.proofs.pki_body.contents_of.Tie as tie
 
+-- one of three kinds, of each of which the same holds
+one-of {ℓ} : (P : ℕ → Type ℓ) (kind a b c : ℕ) → P a → P b → P c → (eqb kind a || (eqb kind b || eqb kind c)) ≡ true → P kind
+one-of P kind a b c x y z = go (eqb kind a) (eqb kind b) refl refl
+  where
+    go : (p q : Bool) → eqb kind a ≡ p → eqb kind b ≡ q → (eqb kind a || (eqb kind b || eqb kind c)) ≡ true → P kind
+    go true q ea eb e = subst P (sym (eqb-true kind a ea)) x
+    go false true ea eb e = subst P (sym (eqb-true kind b eb)) y
+    go false false ea eb e = subst P (sym (eqb-true kind c (simp (ea, eb) at e))) z
+
+module _ (m : List ℕ) (c : Cursor) (kind : ℕ) where
+  of-request : (eqb kind 0 || (eqb kind 2 || eqb kind 7)) ≡ true → contentsOf m kind c ≡ requestsOf m c
+  unfolding contentsOf
+  of-request e = one-of (λ (k : ℕ). contentsOf m k c ≡ requestsOf m c) kind 0 2 7 refl refl refl e
+
+  of-response : (eqb kind 1 || (eqb kind 3 || eqb kind 8)) ≡ true → contentsOf m kind c ≡ responsesOf m c
+  unfolding contentsOf
+  of-response e = one-of (λ (k : ℕ). contentsOf m k c ≡ responsesOf m c) kind 1 3 8 refl refl refl e
+
+  of-neither : (eqb kind 0 || (eqb kind 2 || eqb kind 7)) ≡ false → (eqb kind 1 || (eqb kind 3 || eqb kind 8)) ≡ false → contentsOf m kind c ≡ cond (eqb kind 23) (errorOf m c) (cond (eqb kind 24) (confirmationsOf m c) (otherOf m kind c))
+  unfolding contentsOf
+  of-neither e f =
+      let e2 = or-right (eqb kind 0) (eqb kind 2 || eqb kind 7) e in
+      let f3 = or-right (eqb kind 1) (eqb kind 3 || eqb kind 8) f in
+      simp (or-left (eqb kind 0) (eqb kind 2 || eqb kind 7) e, or-left (eqb kind 2) (eqb kind 7) e2, or-right (eqb kind 2) (eqb kind 7) e2, or-left (eqb kind 1) (eqb kind 3 || eqb kind 8) f, or-left (eqb kind 3) (eqb kind 8) f3, or-right (eqb kind 3) (eqb kind 8) f3)
+
 pub contents-of-spec : {M : Type 1} → statement M
-unfolding contentsOf
 contents-of-spec = tie.close (tie.spec
     (λ c κs. search tests)
-    (λ c. search (tests, ← c .requests .ensures))
     (λ c κs. search tests)
-    (λ c. search (tests, ← c .responses .ensures))
+    (λ c. let a = c .before .before .before .before .args in
+    c .requests .ensures ∙ sym (of-request (a .m .now) (a .c) (a .kind) (told (c .before .before .is-request .ensures) (c .before .if1 .taken))))
     (λ c κs. search tests)
-    (λ c. search (tests, ← c .requests2 .ensures))
     (λ c κs. search tests)
-    (λ c. search (tests, ← c .responses2 .ensures))
+    (λ c. let a = c .before .before .before .before .before .before .args in
+    c .responses .ensures ∙ sym (of-response (a .m .now) (a .c) (a .kind) (told (c .before .before .is-response .ensures) (c .before .if2 .taken))))
     (λ c κs. search tests)
-    (λ c. search (tests, ← c .requests3 .ensures))
+    (λ c. let a = c .before .before .before .before .before .before .before .args in
+    search (tests, ← c .error .ensures, of-neither (a .m .now) (a .c) (a .kind) (told (c .before .before .before .before .before .is-request .ensures) (c .before .before .before .before .if1 .left)) (told (c .before .before .before .is-response .ensures) (c .before .before .if2 .left))))
     (λ c κs. search tests)
-    (λ c. search (tests, ← c .responses3 .ensures))
+    (λ c. let a = c .before .before .before .before .before .before .before .before .args in
+    search (tests, ← c .confirmations .ensures, of-neither (a .m .now) (a .c) (a .kind) (told (c .before .before .before .before .before .before .is-request .ensures) (c .before .before .before .before .before .if1 .left)) (told (c .before .before .before .before .is-response .ensures) (c .before .before .before .if2 .left))))
     (λ c κs. search tests)
-    (λ c. search (tests, ← c .error .ensures))
-    (λ c κs. search tests)
-    (λ c. search (tests, ← c .confirmations .ensures))
-    (λ c κs. search tests)
-    (λ c. search (tests, ← c .other .ensures)))
+    (λ c. let a = c .before .before .before .before .before .before .before .before .args in
+    search (tests, ← c .other .ensures, of-neither (a .m .now) (a .c) (a .kind) (told (c .before .before .before .before .before .before .is-request .ensures) (c .before .before .before .before .before .if1 .left)) (told (c .before .before .before .before .is-response .ensures) (c .before .before .before .if2 .left)))))

@@ -1,0 +1,17 @@
+use Rattle.der.proofs.Auto.{tests, told}
+use mathlib.Core.Path.{_∙_, sym}
+use Rattle.der.proofs.KindLaws.{kind-sequence, kind-low, kind-no-tag, kind-form}
+use Rattle.der.proofs.element.kind.Statement.{statement}
+use Rattle.der.proofs.element.kind.Tie as tie
+
+pub kind-spec : {M : Type 1} → statement M
+kind-spec = tie.close (tie.spec
+    (λ c. sym (kind-sequence _ _ (c .if1 .taken)))
+    (λ c κs. search tests)
+    (λ c. let a = c .before .before .before .before .before .args in search (tests, kind-low (a .tag) (a .c .now), told (c .before .content-ok .ensures) (c .if3 .taken)))
+    (λ c. let a = c .before .before .before .before .before .args in search (tests, kind-low (a .tag) (a .c .now), told (c .before .content-ok .ensures) (c .if3 .left)))
+    (λ c. sym (kind-no-tag _ _ (c .if4 .taken)))
+    (λ c κs. search tests)
+    (λ c. let a = c .before .before .before .before .before .before .before .args in search (tests, kind-form (a .tag) (a .c .now) (c .before .before .before .before .if2 .left) (c .before .before .before .if4 .left), told (c .before .before .form-ok .ensures) (c .before .if5 .taken)))
+    (λ c. let a = c .before .before .before .before .before .before .before .args in search (tests, kind-form (a .tag) (a .c .now) (c .before .before .before .before .if2 .left) (c .before .before .before .if4 .left), told (c .before .before .form-ok .ensures) (c .before .if5 .taken)))
+    (λ c. let a = c .before .before .before .before .before .before .args in search (tests, kind-form (a .tag) (a .c .now) (c .before .before .before .if2 .left) (c .before .before .if4 .left), told (c .before .form-ok .ensures) (c .if5 .left))))
