@@ -92,7 +92,7 @@ fn repeated_opening<E: Ends>() {
     scene.close_refused(id(1), 31);
     scene.lapse(id(1));
     scene.close(id(1));
-    scene.close_refused(id(1), 30);
+    scene.table_is_empty();
 }
 
 /// List 5: A request repeated after its transaction was closed opens a new one,
@@ -141,6 +141,7 @@ fn another_certificate<E: Ends>() {
     scene.lapse(id(1));
     scene.refuses(&cert_conf, good(0), 19, 4);
     scene.close(id(1));
+    scene.table_is_empty();
 }
 
 /// List 8: A confirmation that comes after the host gave up waiting for it.
@@ -261,6 +262,7 @@ fn zeros_everywhere<E: Ends>() {
     scene.board_takes(0, &pkiconf, EnrolmentState::Sure);
     scene.close(zero_id);
     scene.close_refused(zero_id, 30);
+    scene.table_is_empty();
 }
 
 /// Each list as a test of the library and one of the model.

@@ -3,7 +3,6 @@
 
 use super::history::History;
 use super::world::{Member, World};
-use duskstall_host::testing::ends::{EndEntityEnd, Ends, RegistrarEnd};
 use duskstall_host::{Enrolment, EnrolmentState, Transaction, TransactionState};
 
 /// What the claims say, for the report.
@@ -23,9 +22,9 @@ pub struct Claims {
 }
 
 impl Claims {
-    pub fn check<E: Ends>(&mut self, world: &World<E>) {
-        let table = world.registrar.transactions();
-        let table: Vec<Transaction> = table.into_iter().map(|(_, it)| it).collect();
+    pub fn check(&mut self, world: &World) {
+        let slots = world.registrar.transactions();
+        let table: Vec<Transaction> = slots.map(|(_, transaction)| transaction).collect();
         let enrolments: Vec<Enrolment> = world
             .members
             .iter()
@@ -42,9 +41,9 @@ impl Claims {
         }
     }
 
-    fn check_enrolment<E: Ends>(
+    fn check_enrolment(
         &mut self,
-        member: &Member<E>,
+        member: &Member,
         enrolment: &Enrolment,
         table: &[Transaction],
         history: &History,
@@ -106,11 +105,7 @@ impl Claims {
 
 /// Exactly one enrolment has the id, it is of the board that the transaction
 /// names, with the same hash and in one of three states.
-fn board_has_it<E: Ends>(
-    transaction: &Transaction,
-    members: &[Member<E>],
-    enrolments: &[Enrolment],
-) -> bool {
+fn board_has_it(transaction: &Transaction, members: &[Member], enrolments: &[Enrolment]) -> bool {
     let mut same_id = members
         .iter()
         .zip(enrolments)

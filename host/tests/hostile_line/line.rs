@@ -5,7 +5,6 @@ use super::coverage::Coverage;
 use super::forge::{alter, any_number, damage, hash, invent};
 use super::history::Sender;
 use super::world::World;
-use duskstall_host::testing::ends::{EndEntityEnd, Ends, RegistrarEnd};
 use duskstall_host::testing::exchange::Parts;
 use duskstall_host::testing::random::Random;
 use duskstall_host::{Board, Decision, TransactionId, TransactionState, Verdict};
@@ -59,12 +58,7 @@ impl Line {
     }
 
     /// Makes the next call.
-    pub fn call<E: Ends>(
-        &mut self,
-        world: &mut World<E>,
-        random: &mut Random,
-        coverage: &mut Coverage,
-    ) {
+    pub fn call(&mut self, world: &mut World, random: &mut Random, coverage: &mut Coverage) {
         let next = random.below(32);
         if world.members.is_empty() || (next < self.starts && world.members.len() < MEMBERS) {
             let kind = *random.pick(&[0, 0, 2, 4, 7, 1, 24]);
@@ -95,12 +89,7 @@ impl Line {
     }
 
     /// Hands a message to an end.
-    fn message<E: Ends>(
-        &mut self,
-        world: &mut World<E>,
-        random: &mut Random,
-        coverage: &mut Coverage,
-    ) {
+    fn message(&mut self, world: &mut World, random: &mut Random, coverage: &mut Coverage) {
         let mut parts = if random.once_in(self.invented) {
             invent(world, random)
         } else {
@@ -128,7 +117,7 @@ impl Line {
     }
 
     /// A message that was sent: one of the next that wait, or any old one.
-    fn sent<E: Ends>(&mut self, world: &World<E>, random: &mut Random) -> Parts {
+    fn sent(&mut self, world: &World, random: &mut Random) -> Parts {
         let sent = &world.history.sent;
         self.waiting.extend(self.seen..sent.len());
         self.seen = sent.len();
@@ -147,7 +136,7 @@ impl Line {
     }
 
     /// The enrolment with the message's id.
-    fn receiver<E: Ends>(&self, world: &World<E>, parts: &Parts) -> Option<usize> {
+    fn receiver(&self, world: &World, parts: &Parts) -> Option<usize> {
         let id = parts.id.as_deref()?;
         world
             .members
@@ -157,9 +146,9 @@ impl Line {
 
     /// Inside the premise a verdict is good only for a board that issued the
     /// message, and may be anything where the message does not read.
-    fn at_registrar<E: Ends>(
+    fn at_registrar(
         &self,
-        world: &World<E>,
+        world: &World,
         parts: &Parts,
         message: &[u8],
         random: &mut Random,
@@ -180,7 +169,7 @@ impl Line {
     }
 
     /// The same at a board, where a good verdict names the registrar.
-    fn at_member<E: Ends>(&self, world: &World<E>, message: &[u8], random: &mut Random) -> bool {
+    fn at_member(&self, world: &World, message: &[u8], random: &mut Random) -> bool {
         if random.once_in(16) {
             return false;
         }
@@ -192,15 +181,10 @@ impl Line {
 }
 
 /// The id of a transaction in one of these states, or any id.
-fn pick_id<E: Ends>(
-    world: &World<E>,
-    states: &[TransactionState],
-    random: &mut Random,
-) -> TransactionId {
+fn pick_id(world: &World, states: &[TransactionState], random: &mut Random) -> TransactionId {
     let fitting: Vec<TransactionId> = world
         .registrar
         .transactions()
-        .iter()
         .filter(|(_, transaction)| states.contains(&transaction.state))
         .map(|(_, transaction)| transaction.id)
         .collect();
@@ -212,7 +196,7 @@ fn pick_id<E: Ends>(
 }
 
 /// Mostly with the hash of the certificate that was issued.
-fn decide<E: Ends>(world: &World<E>, number: usize, random: &mut Random) -> Decision {
+fn decide(world: &World, number: usize, random: &mut Random) -> Decision {
     let id = world.members[number].end.enrolment().id;
     let issued = world.registrar.find(id).map(|(_, found)| found.hash);
     Decision {

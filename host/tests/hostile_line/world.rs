@@ -3,23 +3,23 @@
 
 use super::coverage::Coverage;
 use super::history::{History, Sender};
-use duskstall_host::testing::ends::{EndEntityEnd, Ends, RegistrarEnd};
 use duskstall_host::{
-    independent, Board, CertHash, Decision, EnrolmentState, Nonce, Outcome, Outgoing, Refusal,
-    RegistrarAnswer, Slot, Transaction, TransactionId, TransactionState, Verdict,
+    independent, Board, CertHash, Decision, EndEntity, EnrolmentState, Nonce, Outcome, Outgoing,
+    Refusal, Registrar, RegistrarAnswer, Slot, Transaction, TransactionId, TransactionState,
+    Verdict,
 };
 
 /// One enrolment of a board.
-pub struct Member<E: Ends> {
+pub struct Member {
     pub board: Board,
-    pub end: E::EndEntity,
+    pub end: EndEntity,
     /// The response nonce that its certConf carried as recipNonce.
     pub answered: Option<Nonce>,
 }
 
-pub struct World<E: Ends> {
-    pub registrar: E::Registrar,
-    pub members: Vec<Member<E>>,
+pub struct World {
+    pub registrar: Registrar,
+    pub members: Vec<Member>,
     pub history: History,
     /// How many nonces were drawn, and how many ids. A value that is handed in
     /// and not used is not drawn, and is handed in again.
@@ -27,10 +27,10 @@ pub struct World<E: Ends> {
     pub ids: u128,
 }
 
-impl<E: Ends> World<E> {
+impl World {
     pub fn new() -> Self {
         World {
-            registrar: E::Registrar::empty(),
+            registrar: Registrar::new(),
             members: Vec::new(),
             history: History::default(),
             nonces: 0,
@@ -94,12 +94,12 @@ impl<E: Ends> World<E> {
         &mut self,
         what: &str,
         coverage: &mut Coverage,
-        call: impl FnOnce(&mut E::Registrar) -> RegistrarAnswer,
+        call: impl FnOnce(&mut Registrar) -> RegistrarAnswer,
     ) -> Outcome {
         self.history.calls += 1;
-        let before = self.registrar.transactions();
+        let before: Vec<_> = self.registrar.transactions().collect();
         let answer = call(&mut self.registrar);
-        let after = self.registrar.transactions();
+        let after: Vec<_> = self.registrar.transactions().collect();
         self.note_sent(Sender::Registrar, answer.outgoing);
         let slot = answer.slot;
         assert!(others(&before, slot).eq(others(&after, slot)));
@@ -125,7 +125,7 @@ impl<E: Ends> World<E> {
     pub fn start(&mut self, board: Board, kind: u8, coverage: &mut Coverage) {
         self.history.calls += 1;
         let id = TransactionId(self.ids.to_be_bytes());
-        match E::EndEntity::start(kind, id, self.nonce()) {
+        match EndEntity::start(kind, id, self.nonce()) {
             Ok((end, request)) => {
                 self.ids += 1;
                 self.history.note_start(id);
@@ -152,9 +152,7 @@ impl<E: Ends> World<E> {
     ) {
         self.history.calls += 1;
         let nonce = self.nonce();
-        let Some(member) = self.members.get_mut(number) else {
-            return;
-        };
+        let member = &mut self.members[number];
         let before = member.end.enrolment();
         let answer = member.end.message(message, good, decision, nonce);
         let after = member.end.enrolment();
@@ -187,9 +185,7 @@ impl<E: Ends> World<E> {
 
     pub fn time_out(&mut self, number: usize, coverage: &mut Coverage) {
         self.history.calls += 1;
-        let Some(member) = self.members.get_mut(number) else {
-            return;
-        };
+        let member = &mut self.members[number];
         let before = member.end.enrolment();
         let answer = member.end.time_out();
         let after = member.end.enrolment();
