@@ -27,7 +27,7 @@ fn confirming<E: Ends>(accept: bool) -> (Scene<E>, Parts, Parts) {
 }
 
 /// List 1: One board's confirmation must not settle its neighbour's transaction.
-fn neighbours_booking<E: Ends>() {
+fn neighbours_confirmation<E: Ends>() {
     let mut scene = Scene::<E>::new();
     scene.start(id(0));
     let requests = [scene.start(id(1)), scene.start(id(2))];
@@ -278,7 +278,7 @@ macro_rules! on_both {
 }
 
 on_both!(
-    neighbours_booking,
+    neighbours_confirmation,
     lost_pkiconf,
     changed_copies,
     repeated_opening,

@@ -2,7 +2,7 @@
 //! history.
 
 use super::history::History;
-use super::world::{Member, World};
+use super::world::{BoardEnrolment, World};
 use duskstall_host::{Enrolment, EnrolmentState, Transaction, TransactionState};
 
 /// What the claims say, for the report.
@@ -25,17 +25,17 @@ impl Claims {
     pub fn check(&mut self, world: &World) {
         let slots = world.registrar.transactions();
         let table: Vec<Transaction> = slots.map(|(_, transaction)| transaction).collect();
-        let enrolments: Vec<Enrolment> = world
-            .members
+        let records: Vec<Enrolment> = world
+            .enrolments
             .iter()
-            .map(|member| member.end.enrolment())
+            .map(|enrolled| enrolled.end.enrolment())
             .collect();
-        for (member, enrolment) in world.members.iter().zip(&enrolments) {
-            self.check_enrolment(member, enrolment, &table, &world.history);
+        for (enrolled, enrolment) in world.enrolments.iter().zip(&records) {
+            self.check_enrolment(enrolled, enrolment, &table, &world.history);
         }
         for transaction in &table {
             if transaction.state == TransactionState::Confirmed {
-                let holds = board_has_it(transaction, &world.members, &enrolments);
+                let holds = board_has_it(transaction, &world.enrolments, &records);
                 self.note(2, holds);
             }
         }
@@ -43,7 +43,7 @@ impl Claims {
 
     fn check_enrolment(
         &mut self,
-        member: &Member,
+        enrolled: &BoardEnrolment,
         enrolment: &Enrolment,
         table: &[Transaction],
         history: &History,
@@ -51,7 +51,7 @@ impl Claims {
         let found = table.iter().find(|other| other.id == enrolment.id);
         let at = |state| found.is_some_and(|found| found.state == state);
         // The transaction whose response the certConf answered.
-        let own = member.answered.map(|nonce| {
+        let own = enrolled.answered.map(|nonce| {
             let open = found.filter(|found| found.sent == nonce);
             (history.is_closed(enrolment.id, nonce), open)
         });
@@ -105,15 +105,19 @@ impl Claims {
 
 /// Exactly one enrolment has the id, it is of the board that the transaction
 /// names, with the same hash and in one of three states.
-fn board_has_it(transaction: &Transaction, members: &[Member], enrolments: &[Enrolment]) -> bool {
-    let mut same_id = members
+fn board_has_it(
+    transaction: &Transaction,
+    enrolments: &[BoardEnrolment],
+    records: &[Enrolment],
+) -> bool {
+    let mut same_id = enrolments
         .iter()
-        .zip(enrolments)
+        .zip(records)
         .filter(|(_, enrolment)| enrolment.id == transaction.id);
-    let (Some((member, enrolment)), None) = (same_id.next(), same_id.next()) else {
+    let (Some((enrolled, enrolment)), None) = (same_id.next(), same_id.next()) else {
         return false;
     };
-    member.board == transaction.board
+    enrolled.board == transaction.board
         && enrolment.hash == transaction.hash
         && matches!(
             enrolment.state,

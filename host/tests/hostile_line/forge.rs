@@ -47,7 +47,7 @@ pub fn invent(world: &World, random: &mut Random) -> Parts {
             parts.hash = transaction.hash.0.to_vec();
         }
         2 => {
-            let enrolment = random.pick(&world.members).end.enrolment();
+            let enrolment = random.pick(&world.enrolments).end.enrolment();
             parts.kind = *random.pick(&[1, 3, 8, 19, 19, 23]);
             parts.id = Some(enrolment.id.0.to_vec());
             parts.recip_nonce = Some(enrolment.last.0.to_vec());

@@ -13,7 +13,7 @@ use duskstall_host::{Board, Decision, TransactionId, TransactionState, Verdict};
 const BOARDS: usize = 16;
 
 /// How many enrolments a list has at most.
-const MEMBERS: usize = 40;
+const ENROLMENTS: usize = 40;
 
 /// Whether verdicts are as demand 3 supposes, or mostly good whatever came.
 #[derive(Clone, Copy, PartialEq, Eq)]
@@ -60,7 +60,9 @@ impl Line {
     /// Makes the next call.
     pub fn call(&mut self, world: &mut World, random: &mut Random, coverage: &mut Coverage) {
         let next = random.below(32);
-        if world.members.is_empty() || (next < self.starts && world.members.len() < MEMBERS) {
+        if world.enrolments.is_empty()
+            || (next < self.starts && world.enrolments.len() < ENROLMENTS)
+        {
             let kind = *random.pick(&[0, 0, 2, 4, 7, 1, 24]);
             let board = Board(random.below(BOARDS) as u16);
             return world.start(board, kind, coverage);
@@ -81,7 +83,7 @@ impl Line {
             29 if random.once_in(2) => world.refuse(asked, coverage),
             30 if random.once_in(3) => world.lapse(granted, coverage),
             31 if random.once_in(3) => {
-                let number = random.below(world.members.len());
+                let number = random.below(world.enrolments.len());
                 world.time_out(number, coverage);
             }
             _ => self.message(world, random, coverage),
@@ -109,11 +111,11 @@ impl Line {
         }
         let number = match self.receiver(world, &parts) {
             Some(number) if !random.once_in(self.misdirected) => number,
-            _ => random.below(world.members.len()),
+            _ => random.below(world.enrolments.len()),
         };
-        let good = self.at_member(world, &message, random);
+        let good = self.at_end_entity(world, &message, random);
         let decision = decide(world, number, random);
-        world.member_gets(number, &message, good, decision, coverage);
+        world.end_entity_gets(number, &message, good, decision, coverage);
     }
 
     /// A message that was sent: one of the next that wait, or any old one.
@@ -139,9 +141,9 @@ impl Line {
     fn receiver(&self, world: &World, parts: &Parts) -> Option<usize> {
         let id = parts.id.as_deref()?;
         world
-            .members
+            .enrolments
             .iter()
-            .position(|member| member.end.enrolment().id.0 == id)
+            .position(|enrolled| enrolled.end.enrolment().id.0 == id)
     }
 
     /// Inside the premise a verdict is good only for a board that issued the
@@ -160,7 +162,7 @@ impl Line {
         let named = self
             .receiver(world, parts)
             .filter(|_| !random.once_in(8))
-            .map_or(any, |number| world.members[number].board);
+            .map_or(any, |number| world.enrolments[number].board);
         match (self.verdicts, world.history.issuer(message)) {
             (Verdicts::Outside, _) | (_, None) => Verdict::Good(named),
             (_, Some(Some(Sender::Board(board)))) => Verdict::Good(board),
@@ -169,7 +171,7 @@ impl Line {
     }
 
     /// The same at a board, where a good verdict names the registrar.
-    fn at_member(&self, world: &World, message: &[u8], random: &mut Random) -> bool {
+    fn at_end_entity(&self, world: &World, message: &[u8], random: &mut Random) -> bool {
         if random.once_in(16) {
             return false;
         }
@@ -197,7 +199,7 @@ fn pick_id(world: &World, states: &[TransactionState], random: &mut Random) -> T
 
 /// Mostly with the hash of the certificate that was issued.
 fn decide(world: &World, number: usize, random: &mut Random) -> Decision {
-    let id = world.members[number].end.enrolment().id;
+    let id = world.enrolments[number].end.enrolment().id;
     let issued = world.registrar.find(id).map(|(_, found)| found.hash);
     Decision {
         accept: !random.once_in(3),

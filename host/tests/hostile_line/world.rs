@@ -10,7 +10,7 @@ use duskstall_host::{
 };
 
 /// One enrolment of a board.
-pub struct Member {
+pub struct BoardEnrolment {
     pub board: Board,
     pub end: EndEntity,
     /// The response nonce that its certConf carried as recipNonce.
@@ -19,7 +19,7 @@ pub struct Member {
 
 pub struct World {
     pub registrar: Registrar,
-    pub members: Vec<Member>,
+    pub enrolments: Vec<BoardEnrolment>,
     pub history: History,
     /// How many nonces were drawn, and how many ids. A value that is handed in
     /// and not used is not drawn, and is handed in again.
@@ -31,7 +31,7 @@ impl World {
     pub fn new() -> Self {
         World {
             registrar: Registrar::new(),
-            members: Vec::new(),
+            enrolments: Vec::new(),
             history: History::default(),
             nonces: 0,
             ids: 0,
@@ -132,7 +132,7 @@ impl World {
                 self.note_sent(Sender::Board(board), Some(request));
                 let state = end.enrolment().state;
                 coverage.note(format!("board start: to {state:?}"));
-                self.members.push(Member {
+                self.enrolments.push(BoardEnrolment {
                     board,
                     end,
                     answered: None,
@@ -142,7 +142,7 @@ impl World {
         }
     }
 
-    pub fn member_gets(
+    pub fn end_entity_gets(
         &mut self,
         number: usize,
         message: &[u8],
@@ -152,12 +152,12 @@ impl World {
     ) {
         self.history.calls += 1;
         let nonce = self.nonce();
-        let member = &mut self.members[number];
-        let before = member.end.enrolment();
-        let answer = member.end.message(message, good, decision, nonce);
-        let after = member.end.enrolment();
+        let enrolled = &mut self.enrolments[number];
+        let before = enrolled.end.enrolment();
+        let answer = enrolled.end.message(message, good, decision, nonce);
+        let after = enrolled.end.enrolment();
         if let Some(cert_conf) = answer.outgoing {
-            member.answered = cert_conf.recip_nonce;
+            enrolled.answered = cert_conf.recip_nonce;
         }
         let reading = independent::read(message);
         let kind = reading.map(|reading| reading.kind).ok();
@@ -179,16 +179,16 @@ impl World {
             }
             _ => moved(what, before.state, after.state),
         });
-        let sender = Sender::Board(member.board);
+        let sender = Sender::Board(enrolled.board);
         self.note_sent(sender, answer.outgoing);
     }
 
     pub fn time_out(&mut self, number: usize, coverage: &mut Coverage) {
         self.history.calls += 1;
-        let member = &mut self.members[number];
-        let before = member.end.enrolment();
-        let answer = member.end.time_out();
-        let after = member.end.enrolment();
+        let enrolled = &mut self.enrolments[number];
+        let before = enrolled.end.enrolment();
+        let answer = enrolled.end.time_out();
+        let after = enrolled.end.enrolment();
         assert_eq!(answer.outgoing, None);
         coverage.note(match answer.outcome {
             Outcome::Refused(refusal) => {
