@@ -1,5 +1,5 @@
-//! Links the compiled proved reader, `libduskstall.a`, where it has been
-//! built. Without it the library and its unit tests still build and run; the
+//! Links the compiled proved library, `libduskstall.a`, where it has been
+//! built. Without it this crate and its unit tests still build and run; the
 //! comparisons and the benchmark then fail at linking, and never pass idly.
 
 use std::env;

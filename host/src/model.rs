@@ -29,13 +29,19 @@ const ACCEPTED: i32 = 0;
 const GRANTED_WITH_MODS: i32 = 1;
 const REJECTION: i32 = 2;
 
-/// The kind of the response to a request: 0:1, 2:3, 4:3, 7:8.
-fn response_to(request: u8) -> Option<u8> {
+/// The kinds of requests: those that a start takes and that open a transaction.
+fn is_request(kind: u8) -> bool {
+    matches!(kind, IR | CR | P10CR | KUR)
+}
+
+/// The kind of the response to a request: 0:1, 2:3, 4:3, 7:8. No list of calls
+/// makes a record of another kind, but bytes may hold one; document 01 leaves
+/// its response open, and the library says cp.
+fn response_to(request: u8) -> u8 {
     match request {
-        IR => Some(IP),
-        CR | P10CR => Some(CP),
-        KUR => Some(KUP),
-        _ => None,
+        IR => IP,
+        KUR => KUP,
+        _ => CP,
     }
 }
 

@@ -17,7 +17,6 @@ mod world;
 
 use claims::Claims;
 use coverage::Coverage;
-use duskstall_host::testing::ends::Compiled;
 use duskstall_host::testing::random::Random;
 use line::{Line, Verdicts};
 use std::collections::BTreeSet;
@@ -36,7 +35,7 @@ fn run(calls: usize, seed: u64, verdicts: Verdicts) -> (Claims, Coverage) {
     let lists = calls / LIST;
     for _ in 0..lists {
         let mut line = Line::draw(verdicts, &mut random);
-        let mut world = World::<Compiled>::new();
+        let mut world = World::new();
         for _ in 0..LIST {
             line.call(&mut world, &mut random, &mut coverage);
             claims.check(&world);

@@ -27,7 +27,7 @@ fn confirming<E: Ends>(accept: bool) -> (Scene<E>, Parts, Parts) {
 }
 
 /// List 1: One board's confirmation must not settle its neighbour's transaction.
-fn neighbours_booking<E: Ends>() {
+fn neighbours_confirmation<E: Ends>() {
     let mut scene = Scene::<E>::new();
     scene.start(id(0));
     let requests = [scene.start(id(1)), scene.start(id(2))];
@@ -92,7 +92,7 @@ fn repeated_opening<E: Ends>() {
     scene.close_refused(id(1), 31);
     scene.lapse(id(1));
     scene.close(id(1));
-    scene.close_refused(id(1), 30);
+    scene.table_is_empty();
 }
 
 /// List 5: A request repeated after its transaction was closed opens a new one,
@@ -141,6 +141,7 @@ fn another_certificate<E: Ends>() {
     scene.lapse(id(1));
     scene.refuses(&cert_conf, good(0), 19, 4);
     scene.close(id(1));
+    scene.table_is_empty();
 }
 
 /// List 8: A confirmation that comes after the host gave up waiting for it.
@@ -261,6 +262,7 @@ fn zeros_everywhere<E: Ends>() {
     scene.board_takes(0, &pkiconf, EnrolmentState::Sure);
     scene.close(zero_id);
     scene.close_refused(zero_id, 30);
+    scene.table_is_empty();
 }
 
 /// Each list as a test of the library and one of the model.
@@ -276,7 +278,7 @@ macro_rules! on_both {
 }
 
 on_both!(
-    neighbours_booking,
+    neighbours_confirmation,
     lost_pkiconf,
     changed_copies,
     repeated_opening,

@@ -1,7 +1,7 @@
 //! "The board's states": one enrolment of a board.
 
 use super::incoming::Incoming;
-use super::{refusal, refuse_if, response_to};
+use super::{is_request, refusal, refuse_if, response_to};
 use super::{ACCEPTED, CERT_CONF, ERROR, GRANTED_WITH_MODS, PKICONF, REJECTION};
 use crate::ends::{CertHash, Decision, EndEntityAnswer, Nonce, Outcome, Outgoing, TransactionId};
 use crate::refusal::Refusal;
@@ -20,7 +20,7 @@ impl EndEntity {
         id: TransactionId,
         nonce: Nonce,
     ) -> Result<(EndEntity, Outgoing), Refusal> {
-        refuse_if(response_to(kind).is_none(), 32)?;
+        refuse_if(!is_request(kind), 32)?;
         let enrolment = Enrolment {
             id,
             kind,
@@ -63,9 +63,8 @@ impl EndEntity {
         let message = Incoming::read(bytes)?;
         message.check_protected()?;
         refuse_if(!good, 7)?;
-        let response = response_to(self.enrolment.kind);
-        let taken = [response, Some(PKICONF), Some(ERROR)];
-        refuse_if(!taken.contains(&Some(message.kind)), 8)?;
+        let taken = [response_to(self.enrolment.kind), PKICONF, ERROR];
+        refuse_if(!taken.contains(&message.kind), 8)?;
         refuse_if(message.id != self.enrolment.id, 12)?;
         refuse_if(!message.answers(self.enrolment.last), 14)?;
         match message.kind {

@@ -1,8 +1,8 @@
 //! "The desk's states": the registrar and its table.
 
 use super::incoming::Incoming;
-use super::{refusal, refuse_if, response_to};
-use super::{ACCEPTED, CERT_CONF, CR, ERROR, IR, KUR, P10CR, PKICONF, REJECTION};
+use super::{is_request, refusal, refuse_if, response_to};
+use super::{ACCEPTED, CERT_CONF, ERROR, P10CR, PKICONF, REJECTION};
 use crate::ends::{
     Board, CertHash, Nonce, Outcome, Outgoing, RegistrarAnswer, Slot, TransactionId, Verdict,
 };
@@ -47,8 +47,8 @@ impl Registrar {
             return Err(refusal(7));
         };
         match message.kind {
-            IR | CR | P10CR | KUR => self.open(message, board),
             CERT_CONF => self.confirm(message, board, nonce),
+            kind if is_request(kind) => self.open(message, board),
             _ => Err(refusal(8)),
         }
     }
@@ -246,7 +246,7 @@ fn wrong_state(state: TransactionState) -> Refusal {
 fn respond(transaction: &mut Transaction, nonce: Nonce, status: i32) -> Outgoing {
     transaction.sent = nonce;
     Outgoing {
-        kind: response_to(transaction.kind).unwrap_or_default(),
+        kind: response_to(transaction.kind),
         id: transaction.id,
         sender_nonce: nonce,
         recip_nonce: Some(transaction.taken),

@@ -2,8 +2,7 @@
 //! history.
 
 use super::history::History;
-use super::world::{Member, World};
-use duskstall_host::testing::ends::{EndEntityEnd, Ends, RegistrarEnd};
+use super::world::{BoardEnrolment, World};
 use duskstall_host::{Enrolment, EnrolmentState, Transaction, TransactionState};
 
 /// What the claims say, for the report.
@@ -23,28 +22,28 @@ pub struct Claims {
 }
 
 impl Claims {
-    pub fn check<E: Ends>(&mut self, world: &World<E>) {
-        let table = world.registrar.transactions();
-        let table: Vec<Transaction> = table.into_iter().map(|(_, it)| it).collect();
-        let enrolments: Vec<Enrolment> = world
-            .members
+    pub fn check(&mut self, world: &World) {
+        let slots = world.registrar.transactions();
+        let table: Vec<Transaction> = slots.map(|(_, transaction)| transaction).collect();
+        let records: Vec<Enrolment> = world
+            .enrolments
             .iter()
-            .map(|member| member.end.enrolment())
+            .map(|enrolled| enrolled.end.enrolment())
             .collect();
-        for (member, enrolment) in world.members.iter().zip(&enrolments) {
-            self.check_enrolment(member, enrolment, &table, &world.history);
+        for (enrolled, enrolment) in world.enrolments.iter().zip(&records) {
+            self.check_enrolment(enrolled, enrolment, &table, &world.history);
         }
         for transaction in &table {
             if transaction.state == TransactionState::Confirmed {
-                let holds = board_has_it(transaction, &world.members, &enrolments);
+                let holds = board_has_it(transaction, &world.enrolments, &records);
                 self.note(2, holds);
             }
         }
     }
 
-    fn check_enrolment<E: Ends>(
+    fn check_enrolment(
         &mut self,
-        member: &Member<E>,
+        enrolled: &BoardEnrolment,
         enrolment: &Enrolment,
         table: &[Transaction],
         history: &History,
@@ -52,7 +51,7 @@ impl Claims {
         let found = table.iter().find(|other| other.id == enrolment.id);
         let at = |state| found.is_some_and(|found| found.state == state);
         // The transaction whose response the certConf answered.
-        let own = member.answered.map(|nonce| {
+        let own = enrolled.answered.map(|nonce| {
             let open = found.filter(|found| found.sent == nonce);
             (history.is_closed(enrolment.id, nonce), open)
         });
@@ -106,19 +105,19 @@ impl Claims {
 
 /// Exactly one enrolment has the id, it is of the board that the transaction
 /// names, with the same hash and in one of three states.
-fn board_has_it<E: Ends>(
+fn board_has_it(
     transaction: &Transaction,
-    members: &[Member<E>],
-    enrolments: &[Enrolment],
+    enrolments: &[BoardEnrolment],
+    records: &[Enrolment],
 ) -> bool {
-    let mut same_id = members
+    let mut same_id = enrolments
         .iter()
-        .zip(enrolments)
+        .zip(records)
         .filter(|(_, enrolment)| enrolment.id == transaction.id);
-    let (Some((member, enrolment)), None) = (same_id.next(), same_id.next()) else {
+    let (Some((enrolled, enrolment)), None) = (same_id.next(), same_id.next()) else {
         return false;
     };
-    member.board == transaction.board
+    enrolled.board == transaction.board
         && enrolment.hash == transaction.hash
         && matches!(
             enrolment.state,

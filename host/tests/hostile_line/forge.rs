@@ -1,7 +1,6 @@
 //! Messages that the line makes up, alters and breaks.
 
 use super::world::World;
-use duskstall_host::testing::ends::{EndEntityEnd, Ends, RegistrarEnd};
 use duskstall_host::testing::exchange::{Certificate, Parts};
 use duskstall_host::testing::random::{self, Random};
 use duskstall_host::CertHash;
@@ -18,7 +17,7 @@ pub fn hash(random: &mut Random) -> CertHash {
 
 /// A message of values that the line has seen or can guess, mostly one that
 /// would fit a transaction or an enrolment.
-pub fn invent<E: Ends>(world: &World<E>, random: &mut Random) -> Parts {
+pub fn invent(world: &World, random: &mut Random) -> Parts {
     let mut parts = Parts {
         kind: random.below(27) as u8,
         version: 2 + random.below(2) as i64,
@@ -34,7 +33,7 @@ pub fn invent<E: Ends>(world: &World<E>, random: &mut Random) -> Parts {
         hash_alg: false,
         certificate: Certificate::Plain,
     };
-    let transactions = world.registrar.transactions();
+    let transactions: Vec<_> = world.registrar.transactions().collect();
     match random.below(4) {
         0 => {
             parts.kind = *random.pick(&[0, 2, 4, 7]);
@@ -48,7 +47,7 @@ pub fn invent<E: Ends>(world: &World<E>, random: &mut Random) -> Parts {
             parts.hash = transaction.hash.0.to_vec();
         }
         2 => {
-            let enrolment = random.pick(&world.members).end.enrolment();
+            let enrolment = random.pick(&world.enrolments).end.enrolment();
             parts.kind = *random.pick(&[1, 3, 8, 19, 19, 23]);
             parts.id = Some(enrolment.id.0.to_vec());
             parts.recip_nonce = Some(enrolment.last.0.to_vec());
@@ -59,7 +58,7 @@ pub fn invent<E: Ends>(world: &World<E>, random: &mut Random) -> Parts {
 }
 
 /// Changes one part of a message.
-pub fn alter<E: Ends>(parts: &mut Parts, world: &World<E>, random: &mut Random) {
+pub fn alter(parts: &mut Parts, world: &World, random: &mut Random) {
     let nonce = any_number(world.nonces, random).to_vec();
     let other = [None, Some(vec![0; 15]), Some(nonce.clone()), Some(nonce)];
     match random.below(13) {

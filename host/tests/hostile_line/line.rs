@@ -5,7 +5,6 @@ use super::coverage::Coverage;
 use super::forge::{alter, any_number, damage, hash, invent};
 use super::history::Sender;
 use super::world::World;
-use duskstall_host::testing::ends::{EndEntityEnd, Ends, RegistrarEnd};
 use duskstall_host::testing::exchange::Parts;
 use duskstall_host::testing::random::Random;
 use duskstall_host::{Board, Decision, TransactionId, TransactionState, Verdict};
@@ -14,7 +13,7 @@ use duskstall_host::{Board, Decision, TransactionId, TransactionState, Verdict};
 const BOARDS: usize = 16;
 
 /// How many enrolments a list has at most.
-const MEMBERS: usize = 40;
+const ENROLMENTS: usize = 40;
 
 /// Whether verdicts are as demand 3 supposes, or mostly good whatever came.
 #[derive(Clone, Copy, PartialEq, Eq)]
@@ -59,14 +58,11 @@ impl Line {
     }
 
     /// Makes the next call.
-    pub fn call<E: Ends>(
-        &mut self,
-        world: &mut World<E>,
-        random: &mut Random,
-        coverage: &mut Coverage,
-    ) {
+    pub fn call(&mut self, world: &mut World, random: &mut Random, coverage: &mut Coverage) {
         let next = random.below(32);
-        if world.members.is_empty() || (next < self.starts && world.members.len() < MEMBERS) {
+        if world.enrolments.is_empty()
+            || (next < self.starts && world.enrolments.len() < ENROLMENTS)
+        {
             let kind = *random.pick(&[0, 0, 2, 4, 7, 1, 24]);
             let board = Board(random.below(BOARDS) as u16);
             return world.start(board, kind, coverage);
@@ -87,7 +83,7 @@ impl Line {
             29 if random.once_in(2) => world.refuse(asked, coverage),
             30 if random.once_in(3) => world.lapse(granted, coverage),
             31 if random.once_in(3) => {
-                let number = random.below(world.members.len());
+                let number = random.below(world.enrolments.len());
                 world.time_out(number, coverage);
             }
             _ => self.message(world, random, coverage),
@@ -95,12 +91,7 @@ impl Line {
     }
 
     /// Hands a message to an end.
-    fn message<E: Ends>(
-        &mut self,
-        world: &mut World<E>,
-        random: &mut Random,
-        coverage: &mut Coverage,
-    ) {
+    fn message(&mut self, world: &mut World, random: &mut Random, coverage: &mut Coverage) {
         let mut parts = if random.once_in(self.invented) {
             invent(world, random)
         } else {
@@ -120,15 +111,15 @@ impl Line {
         }
         let number = match self.receiver(world, &parts) {
             Some(number) if !random.once_in(self.misdirected) => number,
-            _ => random.below(world.members.len()),
+            _ => random.below(world.enrolments.len()),
         };
-        let good = self.at_member(world, &message, random);
+        let good = self.at_end_entity(world, &message, random);
         let decision = decide(world, number, random);
-        world.member_gets(number, &message, good, decision, coverage);
+        world.end_entity_gets(number, &message, good, decision, coverage);
     }
 
     /// A message that was sent: one of the next that wait, or any old one.
-    fn sent<E: Ends>(&mut self, world: &World<E>, random: &mut Random) -> Parts {
+    fn sent(&mut self, world: &World, random: &mut Random) -> Parts {
         let sent = &world.history.sent;
         self.waiting.extend(self.seen..sent.len());
         self.seen = sent.len();
@@ -147,19 +138,19 @@ impl Line {
     }
 
     /// The enrolment with the message's id.
-    fn receiver<E: Ends>(&self, world: &World<E>, parts: &Parts) -> Option<usize> {
+    fn receiver(&self, world: &World, parts: &Parts) -> Option<usize> {
         let id = parts.id.as_deref()?;
         world
-            .members
+            .enrolments
             .iter()
-            .position(|member| member.end.enrolment().id.0 == id)
+            .position(|enrolled| enrolled.end.enrolment().id.0 == id)
     }
 
     /// Inside the premise a verdict is good only for a board that issued the
     /// message, and may be anything where the message does not read.
-    fn at_registrar<E: Ends>(
+    fn at_registrar(
         &self,
-        world: &World<E>,
+        world: &World,
         parts: &Parts,
         message: &[u8],
         random: &mut Random,
@@ -171,7 +162,7 @@ impl Line {
         let named = self
             .receiver(world, parts)
             .filter(|_| !random.once_in(8))
-            .map_or(any, |number| world.members[number].board);
+            .map_or(any, |number| world.enrolments[number].board);
         match (self.verdicts, world.history.issuer(message)) {
             (Verdicts::Outside, _) | (_, None) => Verdict::Good(named),
             (_, Some(Some(Sender::Board(board)))) => Verdict::Good(board),
@@ -180,7 +171,7 @@ impl Line {
     }
 
     /// The same at a board, where a good verdict names the registrar.
-    fn at_member<E: Ends>(&self, world: &World<E>, message: &[u8], random: &mut Random) -> bool {
+    fn at_end_entity(&self, world: &World, message: &[u8], random: &mut Random) -> bool {
         if random.once_in(16) {
             return false;
         }
@@ -192,15 +183,10 @@ impl Line {
 }
 
 /// The id of a transaction in one of these states, or any id.
-fn pick_id<E: Ends>(
-    world: &World<E>,
-    states: &[TransactionState],
-    random: &mut Random,
-) -> TransactionId {
+fn pick_id(world: &World, states: &[TransactionState], random: &mut Random) -> TransactionId {
     let fitting: Vec<TransactionId> = world
         .registrar
         .transactions()
-        .iter()
         .filter(|(_, transaction)| states.contains(&transaction.state))
         .map(|(_, transaction)| transaction.id)
         .collect();
@@ -212,8 +198,8 @@ fn pick_id<E: Ends>(
 }
 
 /// Mostly with the hash of the certificate that was issued.
-fn decide<E: Ends>(world: &World<E>, number: usize, random: &mut Random) -> Decision {
-    let id = world.members[number].end.enrolment().id;
+fn decide(world: &World, number: usize, random: &mut Random) -> Decision {
+    let id = world.enrolments[number].end.enrolment().id;
     let issued = world.registrar.find(id).map(|(_, found)| found.hash);
     Decision {
         accept: !random.once_in(3),

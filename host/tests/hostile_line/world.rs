@@ -3,23 +3,23 @@
 
 use super::coverage::Coverage;
 use super::history::{History, Sender};
-use duskstall_host::testing::ends::{EndEntityEnd, Ends, RegistrarEnd};
 use duskstall_host::{
-    independent, Board, CertHash, Decision, EnrolmentState, Nonce, Outcome, Outgoing, Refusal,
-    RegistrarAnswer, Slot, Transaction, TransactionId, TransactionState, Verdict,
+    independent, Board, CertHash, Decision, EndEntity, EnrolmentState, Nonce, Outcome, Outgoing,
+    Refusal, Registrar, RegistrarAnswer, Slot, Transaction, TransactionId, TransactionState,
+    Verdict,
 };
 
 /// One enrolment of a board.
-pub struct Member<E: Ends> {
+pub struct BoardEnrolment {
     pub board: Board,
-    pub end: E::EndEntity,
+    pub end: EndEntity,
     /// The response nonce that its certConf carried as recipNonce.
     pub answered: Option<Nonce>,
 }
 
-pub struct World<E: Ends> {
-    pub registrar: E::Registrar,
-    pub members: Vec<Member<E>>,
+pub struct World {
+    pub registrar: Registrar,
+    pub enrolments: Vec<BoardEnrolment>,
     pub history: History,
     /// How many nonces were drawn, and how many ids. A value that is handed in
     /// and not used is not drawn, and is handed in again.
@@ -27,11 +27,11 @@ pub struct World<E: Ends> {
     pub ids: u128,
 }
 
-impl<E: Ends> World<E> {
+impl World {
     pub fn new() -> Self {
         World {
-            registrar: E::Registrar::empty(),
-            members: Vec::new(),
+            registrar: Registrar::new(),
+            enrolments: Vec::new(),
             history: History::default(),
             nonces: 0,
             ids: 0,
@@ -94,12 +94,12 @@ impl<E: Ends> World<E> {
         &mut self,
         what: &str,
         coverage: &mut Coverage,
-        call: impl FnOnce(&mut E::Registrar) -> RegistrarAnswer,
+        call: impl FnOnce(&mut Registrar) -> RegistrarAnswer,
     ) -> Outcome {
         self.history.calls += 1;
-        let before = self.registrar.transactions();
+        let before: Vec<_> = self.registrar.transactions().collect();
         let answer = call(&mut self.registrar);
-        let after = self.registrar.transactions();
+        let after: Vec<_> = self.registrar.transactions().collect();
         self.note_sent(Sender::Registrar, answer.outgoing);
         let slot = answer.slot;
         assert!(others(&before, slot).eq(others(&after, slot)));
@@ -125,14 +125,14 @@ impl<E: Ends> World<E> {
     pub fn start(&mut self, board: Board, kind: u8, coverage: &mut Coverage) {
         self.history.calls += 1;
         let id = TransactionId(self.ids.to_be_bytes());
-        match E::EndEntity::start(kind, id, self.nonce()) {
+        match EndEntity::start(kind, id, self.nonce()) {
             Ok((end, request)) => {
                 self.ids += 1;
                 self.history.note_start(id);
                 self.note_sent(Sender::Board(board), Some(request));
                 let state = end.enrolment().state;
                 coverage.note(format!("board start: to {state:?}"));
-                self.members.push(Member {
+                self.enrolments.push(BoardEnrolment {
                     board,
                     end,
                     answered: None,
@@ -142,7 +142,7 @@ impl<E: Ends> World<E> {
         }
     }
 
-    pub fn member_gets(
+    pub fn end_entity_gets(
         &mut self,
         number: usize,
         message: &[u8],
@@ -152,14 +152,12 @@ impl<E: Ends> World<E> {
     ) {
         self.history.calls += 1;
         let nonce = self.nonce();
-        let Some(member) = self.members.get_mut(number) else {
-            return;
-        };
-        let before = member.end.enrolment();
-        let answer = member.end.message(message, good, decision, nonce);
-        let after = member.end.enrolment();
+        let enrolled = &mut self.enrolments[number];
+        let before = enrolled.end.enrolment();
+        let answer = enrolled.end.message(message, good, decision, nonce);
+        let after = enrolled.end.enrolment();
         if let Some(cert_conf) = answer.outgoing {
-            member.answered = cert_conf.recip_nonce;
+            enrolled.answered = cert_conf.recip_nonce;
         }
         let reading = independent::read(message);
         let kind = reading.map(|reading| reading.kind).ok();
@@ -181,18 +179,16 @@ impl<E: Ends> World<E> {
             }
             _ => moved(what, before.state, after.state),
         });
-        let sender = Sender::Board(member.board);
+        let sender = Sender::Board(enrolled.board);
         self.note_sent(sender, answer.outgoing);
     }
 
     pub fn time_out(&mut self, number: usize, coverage: &mut Coverage) {
         self.history.calls += 1;
-        let Some(member) = self.members.get_mut(number) else {
-            return;
-        };
-        let before = member.end.enrolment();
-        let answer = member.end.time_out();
-        let after = member.end.enrolment();
+        let enrolled = &mut self.enrolments[number];
+        let before = enrolled.end.enrolment();
+        let answer = enrolled.end.time_out();
+        let after = enrolled.end.enrolment();
         assert_eq!(answer.outgoing, None);
         coverage.note(match answer.outcome {
             Outcome::Refused(refusal) => {

@@ -220,6 +220,11 @@ impl<E: Ends> Scene<E> {
         assert!(self.registrar == before);
     }
 
+    /// Closing leaves nothing behind.
+    pub fn table_is_empty(&self) {
+        assert!(self.registrar == E::Registrar::empty());
+    }
+
     /// A certConf moves its transaction, and the pkiconf goes out.
     pub fn settles(&mut self, cert_conf: &Parts, board: usize, state: TransactionState) -> Parts {
         let id = id_in(cert_conf);
