@@ -71,6 +71,13 @@ fn other_nonce(message: &[u8], span: Span, held: Transaction) -> bool
     true
 }
 
+// 15: not exactly one entry.
+fn not_one(entries: usize) -> bool
+    ensures { λ r. ⌜ r ≡ not (eqb entries 1) ⌝ }
+{
+    entries != 1
+}
+
 // 17: a hashAlg with pvno 2.
 fn early_hash_alg(alg: Span, version: u32) -> bool
     ensures { λ r. ⌜ r ≡ (isPresent alg && eqb version 2) ⌝ }
@@ -150,7 +157,7 @@ fn request_refusal(
     if contents.kind == 4 {
         return 0;
     }
-    if contents.entries != 1 {
+    if not_one(contents.entries) {
         return 15;
     }
     if entry.number != request_number(contents.kind) {
@@ -180,7 +187,7 @@ fn confirmation_refusal(
     if other_nonce(message, fields.recip_nonce, held) {
         return 14;
     }
-    if contents.entries != 1 {
+    if not_one(contents.entries) {
         return 15;
     }
     if entry.number != request_number(held.kind) {
