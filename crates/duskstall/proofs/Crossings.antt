@@ -2,7 +2,7 @@
 use Prim.Native.Nat.{ℕ}
 use mathlib.Core.List.{List}
 use mathlib.Core.Bool.{Bool, cond}
-use mathlib.Core.Path.{_≡_, refl, sym, _∙_, ap}
+use mathlib.Core.Path.{_≡_, refl, _∙_}
 use borrow.Author.Tests.{eq-eqb, ne-eqb}
 use lib.ListN.{length}
 use lib.Dec.{eqb, leb}
@@ -13,7 +13,7 @@ use Rattle.protocol.specs.declared.EndEntityAnswer.{EndEntityAnswer}
 use Rattle.packed.specs.declared.table.UnpackedTable.{UnpackedTable}
 use Rattle.packed.specs.declared.enrolment.UnpackedEnrolment.{UnpackedEnrolment}
 use Rattle.packed.specs.Table.{unpackTable}
-use Rattle.packed.specs.Enrolment.{unpackEnrolment, packEnrolmentIn}
+use Rattle.packed.specs.Enrolment.{unpackEnrolment}
 use Rattle.packed.specs.Answer.{outcomeNumber}
 use Rattle.duskstall.specs.Boundary.{Crossing, Crosses, boundaryFault, untouched, registrarAnswered, registrarCrossing, endEntityAnswered, endEntityCrossing, packEndEntityAnswer, startAnswered, startCrossing}
 

@@ -1,7 +1,7 @@
 -- What the host is answered: a reading as numbers at fixed places.
 use Prim.Native.Nat.{ℕ, _+_, _*_}
 use mathlib.Core.List.{List}
-use mathlib.Core.Bool.{Bool, true, false, cond}
+use mathlib.Core.Bool.{cond}
 use lib.ListN.{length, set}
 use lib.Dec.{ltb}
 use Rattle.der.specs.Element.{check}

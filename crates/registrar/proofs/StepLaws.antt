@@ -1,15 +1,14 @@
 -- A message's step by the slot and the copies that the code makes.
 use Prim.Native.Nat.{ℕ, _<_, _≤_}
-use mathlib.Core.List.{List, [], _∷_, _++_}
-use mathlib.Core.Bool.{Bool, true, false, not, cond}
+use mathlib.Core.List.{List}
+use mathlib.Core.Bool.{Bool, true, false, not}
 use mathlib.Core.Option.{Option, none, some, Option·getD}
-use mathlib.Core.Path.{_≡_, refl, sym, _∙_, ap}
+use mathlib.Core.Path.{_≡_, refl, sym, _∙_}
 use mathlib.Core.Logic.{inl, inr}
 use native.Mathlib.Omega.{arith}
-use borrow.Author.Tests.{ltb-true, ltb-false, leb-true, eq-eqb, ne-eqb}
-use lib.ListN.{length, getD, set}
-use lib.Dec.{eqb, leb, ltb}
-use Rattle.grammar.specs.declared.Span.{Span}
+use borrow.Author.Tests.{ltb-true, ltb-false, leb-true, ne-eqb}
+use lib.ListN.{length}
+use lib.Dec.{leb, ltb}
 use Rattle.grammar.specs.declared.Message.{Message}
 use Rattle.message.specs.Read.{readingOf}
 use Rattle.message.specs.declared.Fault.{Fault}
@@ -24,17 +23,16 @@ use Rattle.protocol.specs.declared.Transaction.{Transaction}
 use Rattle.protocol.specs.declared.TransactionState.the-variants.{Asked}
 use Rattle.protocol.specs.declared.TransactionTable.{TransactionTable}
 use Rattle.protocol.specs.declared.RegistrarInput.{RegistrarInput}
-use Rattle.protocol.specs.declared.RegistrarAnswer.{RegistrarAnswer}
 use Rattle.protocol.specs.declared.Outgoing.{Outgoing}
-use Rattle.protocol.specs.Bytes.{asId, asNonce, bytesOf, zeros, noNonce, noHash}
-use Rattle.protocol.specs.Message.{Fields, fieldsOf, optionalPart, partOf, isPresent, statusOr0}
+use Rattle.protocol.specs.Bytes.{asId, asNonce, noNonce, noHash}
+use Rattle.protocol.specs.Message.{Fields, fieldsOf, partOf, statusOr0}
 use Rattle.protocol.specs.Outgoing.{pkiConfOut}
-use Rattle.protocol.specs.Table.{lookup, slotOf, replace, freeSlot, put, freeTransaction}
+use Rattle.protocol.specs.Table.{lookup, slotOf, freeSlot, put, freeTransaction}
 use Rattle.protocol.specs.States.{isGranted, isConfirmed, settledState}
-use Rattle.protocol.specs.Refusals.{Row, Check, pass, stop, check, headRows, bitOf, notSixteen, noTransactionId, noSenderNonce}
+use Rattle.protocol.specs.Refusals.{pass, stop, check, headRows, bitOf, notSixteen}
 use Rattle.protocol.specs.RegistrarRows.{isGood, registrarRows}
-use Rattle.protocol.specs.Registrar.{boardNamed, doneQuietly, doneSending, settled, confirmedAt, refusedMessage, opened, openedTransaction, confirmed, refusedReading, registrarChecked, registrarFields, registrarRead, registrarMessage}
-use Rattle.protocol.proofs.Tests.{true-false, passes}
+use Rattle.protocol.specs.Registrar.{boardNamed, doneQuietly, doneSending, settled, confirmedAt, refusedMessage, openedTransaction, confirmed, refusedReading, registrarChecked, registrarFields, registrarRead, registrarMessage}
+use Rattle.protocol.proofs.Tests.{passes}
 use Rattle.protocol.specs.Promises.{Applies}
 use Rattle.protocol.proofs.Rows.{least, stops}
 use Rattle.incoming.specs.Incoming.{sixteenOf, numberOf, faultOf}

@@ -1,6 +1,5 @@
 use Rattle.der.proofs.Auto.{tests, told}
 use native.Mathlib.Omega.{arith}
-use mathlib.Core.Path.{sym, _∙_}
 use Rattle.der.specs.Element.{check}
 use Rattle.der.proofs.ElementLaws.{fault-in}
 use Rattle.duskstall.specs.Host.{checkAnswer}

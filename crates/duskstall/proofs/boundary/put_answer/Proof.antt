@@ -1,4 +1,4 @@
-use Rattle.der.proofs.Auto.{tests, told}
+use Rattle.der.proofs.Auto.{tests}
 use Rattle.duskstall.proofs.boundary.put_answer.Statement.{statement}
 use Rattle.duskstall.proofs.boundary.put_answer.Tie as tie
 

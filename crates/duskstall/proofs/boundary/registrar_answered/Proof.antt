@@ -1,11 +1,6 @@
 -- The three parts, one after the other.
-use Prim.Native.Nat.{ℕ}
-use mathlib.Core.List.{List}
-use mathlib.Core.Bool.{Bool, true, _&&_}
-use mathlib.Core.Path.{_≡_, refl, sym, _∙_, ap}
+use mathlib.Core.Path.{_∙_, ap}
 use borrow.Author.Needs.{needs}
-use lib.ListN.{length}
-use lib.Dec.{eqb, leb}
 use Rattle.packed.specs.Bytes.{packAt}
 use Rattle.packed.specs.Outgoing.{packOutgoing}
 use Rattle.duskstall.proofs.boundary.registrar_answered.Statement.{statement}

@@ -1,11 +1,6 @@
 -- A refused start leaves the enrolment's bytes.
-use Prim.Native.Nat.{ℕ}
-use mathlib.Core.List.{List}
-use mathlib.Core.Bool.{Bool, true, _&&_}
-use mathlib.Core.Path.{_≡_, refl, sym, _∙_, ap}
+use mathlib.Core.Path.{sym, _∙_}
 use borrow.Author.Needs.{needs}
-use lib.ListN.{length}
-use lib.Dec.{eqb, leb}
 use Rattle.duskstall.proofs.Crossings.{start-done, start-refused}
 use Rattle.duskstall.proofs.boundary.start_answered.Statement.{statement}
 use Rattle.duskstall.proofs.boundary.start_answered.Tie as tie

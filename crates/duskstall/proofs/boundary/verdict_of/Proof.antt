@@ -1,4 +1,4 @@
-use Rattle.der.proofs.Auto.{tests, told}
+use Rattle.der.proofs.Auto.{tests}
 use Rattle.duskstall.proofs.boundary.verdict_of.Statement.{statement}
 use Rattle.duskstall.proofs.boundary.verdict_of.Tie as tie
 

@@ -1,4 +1,4 @@
-use Rattle.der.proofs.Auto.{tests, told}
+use Rattle.der.proofs.Auto.{tests}
 use Rattle.duskstall.proofs.boundary.yes.Statement.{statement}
 use Rattle.duskstall.proofs.boundary.yes.Tie as tie
 

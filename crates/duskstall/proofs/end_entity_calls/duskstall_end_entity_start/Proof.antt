@@ -1,16 +1,13 @@
 -- The bytes are faulty, or a start's answer goes into them.
-use Prim.Native.Nat.{ℕ}
-use mathlib.Core.List.{List}
-use mathlib.Core.Bool.{Bool, true, _&&_}
-use mathlib.Core.Path.{_≡_, refl, sym, _∙_, ap}
+use mathlib.Core.Bool.{Bool, _&&_}
+use mathlib.Core.Path.{_∙_, ap}
 use borrow.Author.Needs.{needs}
 use lib.ListN.{length}
 use lib.Dec.{eqb, leb}
 use Rattle.protocol.specs.declared.TransactionId.{TransactionId}
 use Rattle.protocol.specs.declared.Nonce.{Nonce}
 use Rattle.protocol.specs.EndEntity.{endEntityStart}
-use Rattle.packed.specs.Arrays.{unpack16, unpack32}
-use Rattle.duskstall.specs.Boundary.{Crosses, boundaryFault, yes, verdictOf}
+use Rattle.duskstall.specs.Boundary.{boundaryFault}
 use Rattle.duskstall.proofs.Crossings.{start-faulty, start-through}
 use Rattle.duskstall.proofs.end_entity_calls.duskstall_end_entity_start.Statement.{statement}
 use Rattle.duskstall.proofs.end_entity_calls.duskstall_end_entity_start.Tie as tie

@@ -1,11 +1,7 @@
 -- The table is packed, or the bytes have another length.
-use Prim.Native.Nat.{ℕ}
-use mathlib.Core.List.{List}
-use mathlib.Core.Bool.{Bool, true, _&&_}
-use mathlib.Core.Path.{_≡_, refl, sym, _∙_, ap}
+use mathlib.Core.Path.{_∙_, ap}
 use borrow.Author.Needs.{needs}
 use lib.ListN.{length}
-use lib.Dec.{eqb, leb}
 use Rattle.der.proofs.Auto.{told}
 use Rattle.protocol.specs.declared.TransactionTable.{TransactionTable}
 use Rattle.packed.specs.Table.{packTableIn}

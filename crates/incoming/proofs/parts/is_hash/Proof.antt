@@ -1,4 +1,4 @@
-use Rattle.der.proofs.Auto.{tests, told}
+use Rattle.der.proofs.Auto.{tests}
 use Rattle.incoming.proofs.parts.is_hash.Statement.{statement}
 use Rattle.incoming.proofs.parts.is_hash.Tie as tie
 

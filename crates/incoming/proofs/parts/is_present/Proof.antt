@@ -1,4 +1,4 @@
-use Rattle.der.proofs.Auto.{tests, told}
+use Rattle.der.proofs.Auto.{tests}
 use Rattle.incoming.proofs.parts.is_present.Statement.{statement}
 use Rattle.incoming.proofs.parts.is_present.Tie as tie
 

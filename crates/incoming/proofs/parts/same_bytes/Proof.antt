@@ -1,9 +1,8 @@
 -- What is left to compare decides.
-use Prim.Native.Nat.{ℕ, _≤_, _-_, _+_}
-use mathlib.Core.List.{List}
+use Prim.Native.Nat.{_≤_, _-_}
 use mathlib.Core.Path.{_≡_, refl, sym, _∙_}
 use native.Mathlib.Omega.{arith}
-use lib.ListN.{length, drop, getD}
+use lib.ListN.{length, drop}
 use Rattle.protocol.specs.Bytes.{sameBytes}
 use Rattle.protocol.proofs.CodeLaws.{same-no, same-yes, same-end}
 use Rattle.incoming.proofs.Laws.{other-length}

@@ -1,11 +1,10 @@
 -- The bytes passed are copied.
-use Prim.Native.Nat.{ℕ, _≤_, _-_, _+_}
+use Prim.Native.Nat.{ℕ, _≤_, _-_}
 use mathlib.Core.List.{List}
-use mathlib.Core.Path.{_≡_, refl, sym, _∙_}
+use mathlib.Core.Path.{_≡_, refl}
 use native.Mathlib.Omega.{arith}
-use lib.ListN.{length, take, set, getD, length-set}
+use lib.ListN.{length, take, length-set}
 use Rattle.der.proofs.Auto.{tests}
-use Rattle.incoming.specs.Incoming.{sixteenOf}
 use Rattle.incoming.proofs.Laws.{copied, copied-all}
 use Rattle.incoming.proofs.parts.sixteen.Statement.{statement}
 use Rattle.incoming.proofs.parts.sixteen.Tie as tie

@@ -1,4 +1,4 @@
-use Rattle.der.proofs.Auto.{tests, told}
+use Rattle.der.proofs.Auto.{tests}
 use Rattle.registrar.proofs.answers.refused_message.Statement.{statement}
 use Rattle.registrar.proofs.answers.refused_message.Tie as tie
 

@@ -1,21 +1,17 @@
 -- The tests one after the other, each with its row.
 use Prim.Native.Nat.{ℕ}
-use mathlib.Core.List.{List}
-use mathlib.Core.Bool.{true, false}
-use mathlib.Core.Path.{_≡_, sym, _∙_}
+use mathlib.Core.Bool.{true, not, _||_}
+use mathlib.Core.Path.{sym, _∙_, refl, ap}
 use borrow.Author.Needs.{needs}
 use borrow.Author.Tests.{eq-eqb, ne-eqb}
 use Rattle.der.proofs.Auto.{told}
 use Rattle.protocol.specs.Message.{fieldsOf}
-use mathlib.Core.Bool.{not, _||_}
-use mathlib.Core.Path.{refl, ap}
 use lib.Dec.{eqb}
 use Rattle.incoming.proofs.RowLaws.{lowest}
 use Rattle.registrar.specs.Steps.{foundBy}
 use Rattle.protocol.proofs.Tests.{not-false}
-use Rattle.registrar.proofs.Chains.{not-true}
+use Rattle.registrar.proofs.Chains.{not-true, is-24-not, taking}
 use Rattle.registrar.proofs.Chains as chains
-use Rattle.registrar.proofs.Chains.{is-24-not, taking}
 use Rattle.registrar.proofs.rows.confirmation_refusal.Statement.{statement}
 use Rattle.registrar.proofs.rows.confirmation_refusal.Tie as tie
 

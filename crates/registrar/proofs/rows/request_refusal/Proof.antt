@@ -1,8 +1,5 @@
 -- The tests one after the other, each with its row.
-use Prim.Native.Nat.{ℕ}
-use mathlib.Core.List.{List}
-use mathlib.Core.Bool.{true, false}
-use mathlib.Core.Path.{_≡_, sym, _∙_}
+use mathlib.Core.Path.{sym, _∙_}
 use borrow.Author.Needs.{needs}
 use borrow.Author.Tests.{eq-eqb, ne-eqb}
 use Rattle.der.proofs.Auto.{told}
@@ -10,9 +7,8 @@ use Rattle.protocol.specs.Message.{fieldsOf}
 use Rattle.incoming.proofs.RowLaws.{lowest}
 use Rattle.registrar.specs.Steps.{foundBy}
 use Rattle.protocol.proofs.Tests.{not-false}
-use Rattle.registrar.proofs.Chains.{not-true}
+use Rattle.registrar.proofs.Chains.{not-true, present-is, known-is, not-24, counted, uncounted}
 use Rattle.registrar.proofs.Chains as chains
-use Rattle.registrar.proofs.Chains.{present-is, known-is, not-24, counted, uncounted}
 use Rattle.registrar.proofs.rows.request_refusal.Statement.{statement}
 use Rattle.registrar.proofs.rows.request_refusal.Tie as tie
 

@@ -1,11 +1,10 @@
 -- Past the end nothing is stored.
 use mathlib.Core.List.{List}
-use mathlib.Core.Path.{_≡_, sym, ap}
+use mathlib.Core.Path.{_≡_, sym}
 use native.Mathlib.Omega.{arith}
 use lib.ListN.{length, length-map}
 use Rattle.der.proofs.Auto.{tests}
 use Rattle.protocol.specs.declared.Transaction.{Transaction}
-use Rattle.protocol.specs.declared.TransactionTable.{TransactionTable}
 use Rattle.registrar.proofs.SlotLaws.{set-past}
 use Rattle.registrar.proofs.slots.with_at.Statement.{statement}
 use Rattle.registrar.proofs.slots.with_at.Tie as tie

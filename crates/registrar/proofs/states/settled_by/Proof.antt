@@ -1,5 +1,5 @@
 -- Each state's line of the table.
-use Rattle.der.proofs.Auto.{tests, told}
+use Rattle.der.proofs.Auto.{tests}
 use Rattle.registrar.proofs.states.settled_by.Statement.{statement}
 use Rattle.registrar.proofs.states.settled_by.Tie as tie
 

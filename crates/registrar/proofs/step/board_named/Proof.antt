@@ -1,5 +1,5 @@
 -- Bad names no board.
-use Rattle.der.proofs.Auto.{tests, told}
+use Rattle.der.proofs.Auto.{tests}
 use Rattle.registrar.proofs.step.board_named.Statement.{statement}
 use Rattle.registrar.proofs.step.board_named.Tie as tie
 

@@ -1,5 +1,5 @@
 -- By the state: moved, or the same once more.
-use mathlib.Core.Path.{_≡_, _∙_}
+use mathlib.Core.Path.{_∙_}
 use borrow.Author.Needs.{needs}
 use Rattle.der.proofs.Auto.{told}
 use Rattle.registrar.proofs.StepLaws.{confirm-moves, confirm-again}

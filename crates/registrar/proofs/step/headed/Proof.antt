@@ -1,13 +1,9 @@
 -- The later rows refuse it, or it confirms a transaction of the table, or opens one.
 use Prim.Native.Nat.{ℕ}
 use mathlib.Core.Bool.{Bool}
-use mathlib.Core.Path.{_≡_, refl, sym, _∙_, ap}
+use mathlib.Core.Path.{refl, _∙_, ap}
 use borrow.Author.Needs.{needs}
 use lib.Dec.{ltb}
-use Rattle.protocol.specs.declared.Board.{Board}
-use Rattle.protocol.specs.declared.TransactionId.{TransactionId}
-use Rattle.protocol.specs.declared.Nonce.{Nonce}
-use Rattle.protocol.specs.declared.RegistrarAnswer.{RegistrarAnswer}
 use Rattle.protocol.specs.Message.{fieldsOf}
 use Rattle.registrar.specs.Steps.{refusal, confirmation}
 use Rattle.registrar.proofs.StepLaws.{later-refused, later-confirmed, later-opened, asked-is}

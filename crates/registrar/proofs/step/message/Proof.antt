@@ -1,5 +1,5 @@
 -- A reading is refused or clean.
-use mathlib.Core.Path.{_≡_, _∙_, ap}
+use mathlib.Core.Path.{_∙_, ap}
 use borrow.Author.Needs.{needs}
 use Rattle.message.specs.declared.Fault.{Fault}
 use Rattle.protocol.specs.Registrar.{refusedReading}

@@ -1,5 +1,5 @@
 -- The lowest free slot takes the transaction.
-use mathlib.Core.Path.{_≡_, _∙_}
+use mathlib.Core.Path.{_∙_}
 use borrow.Author.Needs.{needs}
 use Rattle.registrar.proofs.StepLaws.{open-is}
 use Rattle.registrar.proofs.step.open.Statement.{statement}

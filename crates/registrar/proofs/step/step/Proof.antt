@@ -1,5 +1,5 @@
 -- The first five rows refuse it, or its id and nonce are whole.
-use mathlib.Core.Path.{_≡_, _∙_, ap}
+use mathlib.Core.Path.{_∙_, ap}
 use mathlib.Core.Bool.{Bool}
 use borrow.Author.Needs.{needs}
 use Rattle.protocol.specs.Message.{fieldsOf}
