@@ -1,7 +1,7 @@
 -- Laws of an OBJECT IDENTIFIER's arcs, for the loop over its bytes.
 use Prim.Native.Nat.{ℕ, suc, _+_, _-_, _<_, _≤_}
 use mathlib.Core.Path.{_≡_, _∙_, refl, sym, ap}
-use native.Mathlib.Nat.{add-sub-cancel, le-of-eq, lt-irrefl, add-assoc}
+use native.Mathlib.Nat.{add-sub-cancel, le-of-eq, lt-irrefl}
 use native.Mathlib.Omega.{arith}
 use borrow.Author.Tests.{eq-eqb, ne-eqb, eqb-true, eqb-false, leb-true, leb-false}
 use mathlib.Core.List.{List, [], _∷_}

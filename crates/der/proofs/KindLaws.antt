@@ -1,11 +1,11 @@
 -- Laws of an element's kind: what the numbers that the loop works on say of the element there.
-use Prim.Native.Nat.{ℕ, _+_, _-_, _*_, _/_, _%_, _<_, _≤_}
+use Prim.Native.Nat.{ℕ, _+_, _-_, _/_, _%_, _<_, _≤_}
 use mathlib.Core.Path.{_≡_, refl, sym, _∙_, ap, subst}
 use mathlib.Core.List.{List}
-use mathlib.Core.Bool.{Bool, true, false, not, cond, _&&_, _||_, and-true, and-false, true≢false}
-use native.Mathlib.Nat.{add-zero, add-assoc, add-sub-cancel-left, mod-eq-of-lt, div-eq-of-lt, mod-eq-sub-mod, div-eq-of-lt-le}
+use mathlib.Core.Bool.{Bool, true, false, not, cond, _&&_, _||_, and-false, true≢false}
+use native.Mathlib.Nat.{add-zero, add-sub-cancel-left, mod-eq-of-lt, div-eq-of-lt, mod-eq-sub-mod, div-eq-of-lt-le}
 use native.Mathlib.Omega.{arith}
-use borrow.Author.Tests.{eq-eqb, ne-eqb, lt-ltb, le-ltb, lt-leb, le-leb, eqb-true, eqb-false, ltb-true, ltb-false, leb-true, leb-false}
+use borrow.Author.Tests.{eq-eqb, ne-eqb, lt-ltb, le-ltb, lt-leb, le-leb, eqb-true, eqb-false, ltb-true, ltb-false}
 use lib.ListN.{length, getD, take, drop, length-drop}
 use lib.Seq.{drop-drop, getD-drop}
 use lib.Dec.{ltb, leb, eqb, lit≤}

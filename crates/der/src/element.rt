@@ -14,7 +14,7 @@ ghost use Rattle.der.specs.Element.{formOk, kindOf, kindIn, ruleOf, chec
 // At most so many elements deep, the message being depth 1.
 pub const MAX_DEPTH: u8 = 16;
 
-// One element by itself, its content not looked into.
+// One element by itself, its content not looked into: a type of the definitions. The code has a number for it, `kind`.
 pub enum Element {
     // its size, tag and length included
     Primitive(usize),

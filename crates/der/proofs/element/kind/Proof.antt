@@ -1,5 +1,5 @@
 use Rattle.der.proofs.Auto.{tests, told}
-use mathlib.Core.Path.{_∙_, sym}
+use mathlib.Core.Path.{sym}
 use Rattle.der.proofs.KindLaws.{kind-sequence, kind-low, kind-no-tag, kind-form}
 use Rattle.der.proofs.element.kind.Statement.{statement}
 use Rattle.der.proofs.element.kind.Tie as tie

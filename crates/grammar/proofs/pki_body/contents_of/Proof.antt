@@ -7,7 +7,6 @@ use borrow.Author.Tests.{eqb-true}
 use lib.Dec.{eqb}
 use Rattle.der.proofs.Auto.{tests, told, or-left, or-right}
 use Rattle.grammar.specs.declared.cursor.Cursor.{Cursor}
-use Rattle.grammar.specs.declared.pki_body.Contents.{Contents}
 use Rattle.grammar.specs.Body.{requestsOf, responsesOf, errorOf, confirmationsOf, otherOf, contentsOf}
 use Rattle.grammar.proofs.pki_body.contents_of.Statement.{statement}
 use Rattle.grammar.proofs.pki_body.contents_of.Tie as tie
