@@ -1,24 +1,12 @@
 // The static library for the host: functions over numbers and byte slices. Every one is total, whatever it is handed.
 mod boundary;
 pub mod end_entity_calls;
-mod fields;
 pub mod registrar_calls;
 
-use crate::fields::FIELDS;
-use crate::fields::put_message;
-use crate::fields::put_size;
-use crate::fields::put_small;
-use der::element::Check;
-use der::element::check_elements;
-use message::Reading;
+use fields::check_number;
+use fields::read_into;
 ghost use mathlib.Core.Path.{_≡_};
-ghost use Rattle.duskstall.specs.Host.{checkAnswer, readAnswer, readFields};
-
-fn small(x: u8) -> u64
-    ensures { λ r. ⌜ r ≡ x ⌝ }
-{
-    x as u64
-}
+ghost use Rattle.fields.specs.Fields.{checkAnswer, readAnswer, readFields};
 
 // Whether all of `bytes` is whole DER elements, at most 16 deep. 0: yes; else the first fault's offset times 8 plus its rule;
 // 7, which is no rule, where `bytes` is longer than any message could be.
@@ -26,14 +14,7 @@ fn small(x: u8) -> u64
 pub extern "C" fn duskstall_check(bytes: &[u8]) -> u64
     ensures { λ r. ⌜ r ≡ checkAnswer (now (bytes .entry)) ⌝ }
 {
-    if 4294967295 < bytes.len() {
-        return 7;
-    }
-    let c = check_elements(bytes);
-    match c {
-        Check::Sound => 0,
-        Check::Fault(at, rule) => at as u64 * 8 + small(rule),
-    }
+    check_number(bytes)
 }
 
 // Reads `message`. 0: it is clean, and `fields` says where its parts are; 1 or 2: it is refused, and of 2 `fields` has the
@@ -42,20 +23,5 @@ pub extern "C" fn duskstall_check(bytes: &[u8]) -> u64
 pub extern "C" fn duskstall_read(message: &[u8], fields: &mut [u64]) -> u64
     ensures { λ r. ⌜ (r ≡ readAnswer (now (message .entry)) (now (fields .entry))) × (now (fields .exit) ≡ readFields (now (message .entry)) (now (fields .entry))) ⌝ }
 {
-    if fields.len() < FIELDS {
-        return 255;
-    }
-    let r = message::read(message);
-    match r {
-        Reading::Clean(m) => {
-            put_message(fields, m);
-            0
-        }
-        Reading::Refused(fault) => {
-            let at = fault.at;
-            put_size(fields, 0, at.0);
-            put_small(fields, 1, fault.rule);
-            small(fault.number)
-        }
-    }
+    read_into(message, fields)
 }

@@ -21,7 +21,7 @@ ghost use Rattle.protocol.specs.Refusals.{noFault};
 ghost use Rattle.protocol.specs.Outgoing.{requestOut, certConfOut};
 ghost use Rattle.protocol.specs.EndEntity.{enrolmentRefused, enrolmentUnread, enrolmentMoved, inState, startedEnrolment, noEnrolment, confirmedEnrolment, confirming};
 
-pub fn no_fault() -> Fault
+pub(crate) fn no_fault() -> Fault
     ensures { λ r. ⌜ r ≡ noFault ⌝ }
 {
     Fault {
@@ -32,7 +32,7 @@ pub fn no_fault() -> Fault
 }
 
 // Refused, with nothing to send.
-pub fn refused(number: u8, enrolment: Enrolment) -> EndEntityAnswer
+pub(crate) fn refused(number: u8, enrolment: Enrolment) -> EndEntityAnswer
     ensures { λ r. ⌜ r ≡ enrolmentRefused number enrolment ⌝ }
 {
     EndEntityAnswer {
@@ -45,7 +45,7 @@ pub fn refused(number: u8, enrolment: Enrolment) -> EndEntityAnswer
 }
 
 // The bytes do not read.
-pub fn unread(enrolment: Enrolment, fault: Fault) -> EndEntityAnswer
+pub(crate) fn unread(enrolment: Enrolment, fault: Fault) -> EndEntityAnswer
     ensures { λ r. ⌜ r ≡ enrolmentUnread fault enrolment ⌝ }
 {
     let number = read_refusal(fault);
@@ -60,7 +60,7 @@ pub fn unread(enrolment: Enrolment, fault: Fault) -> EndEntityAnswer
 }
 
 // The enrolment is in another state, and nothing is sent.
-pub fn moved(enrolment: Enrolment, state: EnrolmentState) -> EndEntityAnswer
+pub(crate) fn moved(enrolment: Enrolment, state: EnrolmentState) -> EndEntityAnswer
     ensures { λ r. ⌜ r ≡ enrolmentMoved (inState enrolment state) ⌝ }
 {
     let id = enrolment.id;
@@ -84,7 +84,7 @@ pub fn moved(enrolment: Enrolment, state: EnrolmentState) -> EndEntityAnswer
 }
 
 // The enrolment of a start that is not refused.
-pub fn started(kind: u8, id: TransactionId, nonce: Nonce) -> Enrolment
+pub(crate) fn started(kind: u8, id: TransactionId, nonce: Nonce) -> Enrolment
     ensures { λ r. ⌜ r ≡ startedEnrolment kind id nonce ⌝ }
 {
     Enrolment {
@@ -98,7 +98,7 @@ pub fn started(kind: u8, id: TransactionId, nonce: Nonce) -> Enrolment
 }
 
 // What stands in the answer to a refused start.
-pub fn no_enrolment() -> Enrolment
+pub(crate) fn no_enrolment() -> Enrolment
     ensures { λ r. ⌜ r ≡ noEnrolment ⌝ }
 {
     Enrolment {
@@ -114,7 +114,7 @@ pub fn no_enrolment() -> Enrolment
 }
 
 // ir, cr, p10cr or kur.
-pub fn request_out(kind: u8, id: TransactionId, nonce: Nonce) -> Outgoing
+pub(crate) fn request_out(kind: u8, id: TransactionId, nonce: Nonce) -> Outgoing
     ensures { λ r. ⌜ r ≡ requestOut kind id nonce ⌝ }
 {
     Outgoing {
@@ -175,7 +175,7 @@ fn confirmed(
 }
 
 // The certificate is accepted or not, and the certConf that says so is sent.
-pub fn confirm(enrolment: Enrolment, input: EndEntityInput, answered: Nonce) -> EndEntityAnswer
+pub(crate) fn confirm(enrolment: Enrolment, input: EndEntityInput, answered: Nonce) -> EndEntityAnswer
     ensures { λ r. ⌜ r ≡ confirming enrolment (input .accept) (input .hash) (input .nonce) answered ⌝ }
 {
     let id = enrolment.id;

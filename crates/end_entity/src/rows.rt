@@ -167,7 +167,7 @@ fn no_certificate(kind: u8, status: u32, certificate: Span) -> bool
 }
 
 // The lowest row of the table that applies; 0 where none does.
-pub fn refusal(enrolment: Enrolment, message: &[u8], m: Message, good: bool) -> u8
+pub(crate) fn refusal(enrolment: Enrolment, message: &[u8], m: Message, good: bool) -> u8
     ensures { λ r. ⌜ r ≡ numberOf (check (endEntityRows enrolment good (fieldsOf (now (message .entry)) m))) ⌝ }
 {
     let state = enrolment.state;

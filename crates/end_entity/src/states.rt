@@ -5,7 +5,7 @@ ghost use mathlib.Core.Bool.{_||_};
 ghost use Rattle.protocol.specs.States.{isWaiting, isConfirming, broken, assured, decided, decision};
 
 // Whether a response is awaited.
-pub fn is_waiting(state: EnrolmentState) -> bool
+pub(crate) fn is_waiting(state: EnrolmentState) -> bool
     ensures { λ r. ⌜ r ≡ isWaiting state ⌝ }
 {
     match state {
@@ -20,7 +20,7 @@ pub fn is_waiting(state: EnrolmentState) -> bool
 }
 
 // Whether a confirmation was sent, and its pkiconf is awaited.
-pub fn is_confirming(state: EnrolmentState) -> bool
+pub(crate) fn is_confirming(state: EnrolmentState) -> bool
     ensures { λ r. ⌜ r ≡ isConfirming state ⌝ }
 {
     match state {
@@ -35,7 +35,7 @@ pub fn is_confirming(state: EnrolmentState) -> bool
 }
 
 // Whether anything is awaited.
-pub fn is_awaiting(state: EnrolmentState) -> bool
+pub(crate) fn is_awaiting(state: EnrolmentState) -> bool
     ensures { λ r. ⌜ r ≡ (isWaiting state || isConfirming state) ⌝ }
 {
     if is_waiting(state) {
@@ -45,7 +45,7 @@ pub fn is_awaiting(state: EnrolmentState) -> bool
 }
 
 // Where an error or a time out leads.
-pub fn broken_state(state: EnrolmentState) -> EnrolmentState
+pub(crate) fn broken_state(state: EnrolmentState) -> EnrolmentState
     ensures { λ r. ⌜ r ≡ broken state ⌝ }
 {
     match state {
@@ -60,7 +60,7 @@ pub fn broken_state(state: EnrolmentState) -> EnrolmentState
 }
 
 // Where a pkiconf leads.
-pub fn assured_state(state: EnrolmentState) -> EnrolmentState
+pub(crate) fn assured_state(state: EnrolmentState) -> EnrolmentState
     ensures { λ r. ⌜ r ≡ assured state ⌝ }
 {
     match state {
@@ -75,7 +75,7 @@ pub fn assured_state(state: EnrolmentState) -> EnrolmentState
 }
 
 // Where the host's decision on a certificate leads.
-pub fn decided_state(accept: bool) -> EnrolmentState
+pub(crate) fn decided_state(accept: bool) -> EnrolmentState
     ensures { λ r. ⌜ r ≡ decided accept ⌝ }
 {
     if accept {
@@ -86,7 +86,7 @@ pub fn decided_state(accept: bool) -> EnrolmentState
 }
 
 // The status of the certConf that tells the decision.
-pub fn decision_status(accept: bool) -> u32
+pub(crate) fn decision_status(accept: bool) -> u32
     ensures { λ r. ⌜ r ≡ decision accept ⌝ }
 {
     if accept { 0 } else { 2 }
