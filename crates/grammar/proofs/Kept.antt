@@ -6,7 +6,7 @@ use Rattle.grammar.specs.declared.parts.Each.{Each}
 use Rattle.grammar.specs.declared.parts.Each.the-variants.{Text, Info}
 use Rattle.grammar.specs.declared.entries.EntryKind.{EntryKind}
 use Rattle.grammar.specs.Cursor.{needOf, anyOf, noneOf, maybeOf, restOf, doneOf, enterOf, smallOf}
-use Rattle.grammar.specs.Parts.{typedOf, oneOf, allOf, sequenceOf, fieldOf, typedField, anyField, sequenceField, maybeText, failInfoOf, statusOf, maybeStatus}
+use Rattle.grammar.specs.Parts.{typedOf, oneOf, allBy, sequenceBy, sequenceOf, fieldOf, typedField, anyField, sequenceField, maybeText, failInfoOf, statusOf, maybeStatus}
 use Rattle.grammar.specs.Header.{nameOf, namesOf, optionsOf, idsOf, headerOf}
 use Rattle.grammar.specs.Entries.{choiceOf, keyPair, maybeKeyPair, entryOf, entriesOf}
 use Rattle.grammar.specs.Body.{contentsOf, bodyTag, bodyOf}
@@ -56,7 +56,7 @@ module _ (m : List ℕ) (tag inner kind : ℕ) (each : Each) (what : EntryKind) 
       ∷ smallOf m
       ∷ typedOf m
       ∷ oneOf m each
-      ∷ allOf m each
+      ∷ allBy (oneOf m each)
       ∷ sequenceOf m each
       ∷ fieldOf m tag inner
       ∷ typedField m tag

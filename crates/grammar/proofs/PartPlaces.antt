@@ -12,7 +12,7 @@ use Rattle.grammar.specs.declared.parts.Each.{Each}
 use Rattle.grammar.specs.declared.parts.Each.the-variants.{Text, Certificate, Info}
 use Rattle.grammar.specs.declared.parts.Status.{Status}
 use Rattle.grammar.specs.Cursor.{tagAt, needOf, noneOf, enterOf, leaveOf, contentOf, leftAt}
-use Rattle.grammar.specs.Parts.{spanFrom, typedOf, oneOf, allOf, sequenceOf, fieldOf, typedField, anyField, sequenceField, maybeText, lastBitSet, failInfoOf, statusOf, maybeStatus}
+use Rattle.grammar.specs.Parts.{spanFrom, typedOf, oneOf, allBy, sequenceBy, sequenceOf, fieldOf, typedField, anyField, sequenceField, maybeText, lastBitSet, failInfoOf, statusOf, maybeStatus}
 use Rattle.grammar.proofs.Places.{untrue, Spot, wide, Went, Took, Goes, Steps, Takes, still, _then_, steps, need-takes, none-steps, at-done, at-leave, found-steps, Placed, took-kept, repeat-keeps}
 use Rattle.grammar.proofs.Places.Spot.{absent, present}
 
@@ -46,18 +46,18 @@ one-takes m Text c = need-takes m 0x0C c
 one-takes m Certificate c = need-takes m 0x30 c
 one-takes m Info c = typed-takes m c
 
-pub all-goes : (m : List ℕ) (what : Each) (c : Cursor) → Goes c (allOf m what c)
-unfolding allOf
+pub all-goes : (m : List ℕ) (what : Each) (c : Cursor) → Goes c (allBy (oneOf m what) c)
+unfolding allBy
 all-goes m what c =
     repeat-keeps (λ k. k) (oneOf m what) (Goes c)
     (λ s f k. let t = one-takes m what s k in f (t .along .ok) then t .along) (leftAt c) c still
 
-pub all-kept : {n : ℕ} (m : List ℕ) (what : Each) (c : Cursor) → Placed n c → Placed n (allOf m what c)
-unfolding allOf
+pub all-kept : {n : ℕ} (m : List ℕ) (what : Each) (c : Cursor) → Placed n c → Placed n (allBy (oneOf m what) c)
+unfolding allBy
 all-kept {n} m what c = repeat-keeps (λ k. k) (oneOf m what) (Placed n) (λ s. took-kept (one-takes m what s)) (leftAt c) c
 
 pub sequence-takes : (m : List ℕ) (what : Each) (c : Cursor) → Takes c (sequenceOf m what c)
-unfolding sequenceOf
+unfolding sequenceOf sequenceBy
 sequence-takes m what c = at-leave (Took c) _ (need-takes m 0x30 c)
 
 pub field-steps : (m : List ℕ) (tag inner : ℕ) (c : Cursor) → Steps c (fieldOf m tag inner c)

@@ -48,38 +48,25 @@ typedOf m c =
     let o : Cursor = needOf m 0x06 (enterOf s) in
     leaveOf s (doneOf (restOf m o))
 
+-- elements taken by `step`, one after another up to the parent's end
+unfoldable pub allBy : (Cursor → Cursor) → Cursor → Cursor
+allBy step c = repeat (λ k. k) step (leftAt c) c
+
+-- SEQUENCE of one or more that `step` takes
+unfoldable pub sequenceBy : List ℕ → (Cursor → Cursor) → Cursor → Cursor
+sequenceBy m step c =
+    let s : Cursor = needOf m 0x30 c in
+    leaveOf s (allBy step (step (enterOf s)))
+
 -- UTF8String; a certificate, which is any SEQUENCE; InfoTypeAndValue
 unfoldable pub oneOf : List ℕ → Each → Cursor → Cursor
-oneOf m Text c = needOf m 0x0C c
-oneOf m Certificate c = needOf m 0x30 c
-oneOf m Info c = typedOf m c
-
--- one after another up to the parent's end
-unfoldable pub allOf : List ℕ → Each → Cursor → Cursor
-allOf m what c = repeat (λ k. k) (oneOf m what) (leftAt c) c
-
--- the same of elements with one tag, and of AlgorithmIdentifier and InfoTypeAndValue
-unfoldable pub allTagged : List ℕ → ℕ → Cursor → Cursor
-allTagged m tag c = repeat (λ k. k) (needOf m tag) (leftAt c) c
-
-unfoldable pub allTyped : List ℕ → Cursor → Cursor
-allTyped m c = repeat (λ k. k) (typedOf m) (leftAt c) c
-
-unfoldable pub sequenceTagged : List ℕ → ℕ → Cursor → Cursor
-sequenceTagged m tag c =
-    let s : Cursor = needOf m 0x30 c in
-    leaveOf s (allTagged m tag (needOf m tag (enterOf s)))
-
-unfoldable pub sequenceTyped : List ℕ → Cursor → Cursor
-sequenceTyped m c =
-    let s : Cursor = needOf m 0x30 c in
-    leaveOf s (allTyped m (typedOf m (enterOf s)))
+oneOf m Text = needOf m 0x0C
+oneOf m Certificate = needOf m 0x30
+oneOf m Info = typedOf m
 
 -- SEQUENCE of one or more
 unfoldable pub sequenceOf : List ℕ → Each → Cursor → Cursor
-sequenceOf m what c =
-    let s : Cursor = needOf m 0x30 c in
-    leaveOf s (allOf m what (oneOf m what (enterOf s)))
+sequenceOf m what c = sequenceBy m (oneOf m what) c
 
 -- [n] OPTIONAL around one element with the tag `inner`: the span is what that one holds
 unfoldable pub fieldOf : List ℕ → ℕ → ℕ → Cursor → Cursor

@@ -17,7 +17,8 @@ use crate::cursor::small;
 use crate::cursor::tag_at;
 use crate::cursor::value;
 ghost use mathlib.Core.Path.{_≡_};
-ghost use Rattle.grammar.specs.Parts.{spanFrom, foundSpan, wholeSpan, outerSpan, foundOf, typedOf, allTagged, allTyped, sequenceTagged, sequenceTyped, sequenceOf, fieldOf, typedField, anyField, sequenceField, maybeText, lastBitSet, failInfoOf, statusOf, maybeStatus};
+ghost use Rattle.grammar.specs.Cursor.{needOf};
+ghost use Rattle.grammar.specs.Parts.{spanFrom, foundSpan, wholeSpan, outerSpan, foundOf, typedOf, allBy, sequenceBy, sequenceOf, fieldOf, typedField, anyField, sequenceField, maybeText, lastBitSet, failInfoOf, statusOf, maybeStatus};
 
 // What a SEQUENCE OF holds.
 pub enum Each {
@@ -96,7 +97,7 @@ fn typed(m: &[u8], c: Cursor) -> Cursor
 
 // Elements with this tag, one after another up to the parent's end.
 fn all_tagged(m: &[u8], c: Cursor, tag: u8) -> Cursor
-    ensures { λ r. ⌜ r ≡ allTagged (now (m .entry)) tag c ⌝ }
+    ensures { λ r. ⌜ r ≡ allBy (needOf (now (m .entry)) tag) c ⌝ }
 {
     let mut k = c;
     while more(k) {
@@ -106,7 +107,7 @@ fn all_tagged(m: &[u8], c: Cursor, tag: u8) -> Cursor
 }
 
 fn all_typed(m: &[u8], c: Cursor) -> Cursor
-    ensures { λ r. ⌜ r ≡ allTyped (now (m .entry)) c ⌝ }
+    ensures { λ r. ⌜ r ≡ allBy (typedOf (now (m .entry))) c ⌝ }
 {
     let mut k = c;
     while more(k) {
@@ -116,7 +117,7 @@ fn all_typed(m: &[u8], c: Cursor) -> Cursor
 }
 
 fn sequence_tagged(m: &[u8], c: Cursor, tag: u8) -> Cursor
-    ensures { λ r. ⌜ r ≡ sequenceTagged (now (m .entry)) tag c ⌝ }
+    ensures { λ r. ⌜ r ≡ sequenceBy (now (m .entry)) (needOf (now (m .entry)) tag) c ⌝ }
 {
     let s = need(m, c, 0x30);
     let first = need(m, enter(s), tag);
@@ -124,7 +125,7 @@ fn sequence_tagged(m: &[u8], c: Cursor, tag: u8) -> Cursor
 }
 
 fn sequence_typed(m: &[u8], c: Cursor) -> Cursor
-    ensures { λ r. ⌜ r ≡ sequenceTyped (now (m .entry)) c ⌝ }
+    ensures { λ r. ⌜ r ≡ sequenceBy (now (m .entry)) (typedOf (now (m .entry))) c ⌝ }
 {
     let s = need(m, c, 0x30);
     let first = typed(m, enter(s));

@@ -1,10 +1,10 @@
 use Rattle.der.proofs.Auto.{tests, told}
-use Rattle.grammar.specs.Parts.{sequenceOf, allOf, oneOf, sequenceTagged, sequenceTyped, allTagged, allTyped}
+use Rattle.grammar.specs.Parts.{sequenceOf, oneOf}
 use Rattle.grammar.proofs.parts.sequence_of.Statement.{statement}
 use Rattle.grammar.proofs.parts.sequence_of.Tie as tie
 
 pub sequence-of-spec : {M : Type 1} → statement M
-unfolding sequenceOf allOf oneOf sequenceTagged sequenceTyped allTagged allTyped
+unfolding sequenceOf oneOf
 sequence-of-spec = tie.close (tie.spec
     (λ c. search tests)
     (λ c κs. search tests)

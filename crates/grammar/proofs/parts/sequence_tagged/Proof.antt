@@ -1,10 +1,10 @@
 use Rattle.der.proofs.Auto.{tests}
-use Rattle.grammar.specs.Parts.{sequenceTagged}
+use Rattle.grammar.specs.Parts.{sequenceBy}
 use Rattle.grammar.proofs.parts.sequence_tagged.Statement.{statement}
 use Rattle.grammar.proofs.parts.sequence_tagged.Tie as tie
 
 pub sequence-tagged-spec : {M : Type 1} → statement M
-unfolding sequenceTagged
+unfolding sequenceBy
 sequence-tagged-spec = tie.close (tie.spec
     (λ c κs. search tests)
     (λ c κs. search tests)

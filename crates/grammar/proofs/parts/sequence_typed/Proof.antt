@@ -1,10 +1,10 @@
 use Rattle.der.proofs.Auto.{tests}
-use Rattle.grammar.specs.Parts.{sequenceTyped}
+use Rattle.grammar.specs.Parts.{sequenceBy}
 use Rattle.grammar.proofs.parts.sequence_typed.Statement.{statement}
 use Rattle.grammar.proofs.parts.sequence_typed.Tie as tie
 
 pub sequence-typed-spec : {M : Type 1} → statement M
-unfolding sequenceTyped
+unfolding sequenceBy
 sequence-typed-spec = tie.close (tie.spec
     (λ c κs. search tests)
     (λ c κs. search tests)
