@@ -175,7 +175,11 @@ fn confirmed(
 }
 
 // The certificate is accepted or not, and the certConf that says so is sent.
-pub(crate) fn confirm(enrolment: Enrolment, input: EndEntityInput, answered: Nonce) -> EndEntityAnswer
+pub(crate) fn confirm(
+    enrolment: Enrolment,
+    input: EndEntityInput,
+    answered: Nonce,
+) -> EndEntityAnswer
     ensures { λ r. ⌜ r ≡ confirming enrolment (input .accept) (input .hash) (input .nonce) answered ⌝ }
 {
     let id = enrolment.id;
