@@ -27,6 +27,10 @@ checkAnswer s = cond (ltb 4294967295 (length s)) 7 (checkNumber (check s))
 
 -- ## The places of a reading's numbers
 
+-- how many numbers there are
+abbrev pub fieldCount : ℕ
+fieldCount = 47
+
 -- a number at its place; nothing where there is no such place
 unfoldable pub putNumber : ℕ → ℕ → List ℕ → List ℕ
 putNumber at v l = set l at v
@@ -96,7 +100,7 @@ readNumbers (Refused f) l = putNumber 1 (f .rule) (putNumber 0 (f .at .0) l)
 
 -- 255 where there is no room
 unfoldable pub readAnswer : List ℕ → List ℕ → ℕ
-readAnswer s l = cond (ltb (length l) 47) 255 (readNumber (readingOf s))
+readAnswer s l = cond (ltb (length l) fieldCount) 255 (readNumber (readingOf s))
 
 unfoldable pub readFields : List ℕ → List ℕ → List ℕ
-readFields s l = cond (ltb (length l) 47) l (readNumbers (readingOf s) l)
+readFields s l = cond (ltb (length l) fieldCount) l (readNumbers (readingOf s) l)

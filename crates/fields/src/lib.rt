@@ -1,7 +1,6 @@
 // A reading as numbers at fixed places of a lent array, and the DER check as one number.
 mod places;
 
-use crate::places::FIELDS;
 use crate::places::put_message;
 use crate::places::put_size;
 use crate::places::put_small;
@@ -10,6 +9,9 @@ use der::element::check_elements;
 use message::Reading;
 ghost use mathlib.Core.Path.{_≡_};
 ghost use Rattle.fields.specs.Fields.{checkAnswer, readAnswer, readFields};
+
+// How many numbers there are.
+pub const FIELDS: usize = 47;
 
 fn small(x: u8) -> u64
     ensures { λ r. ⌜ r ≡ x ⌝ }

@@ -9,9 +9,6 @@ ghost use mathlib.Core.Path.{_≡_};
 ghost use mathlib.Core.Bool.{cond};
 ghost use Rattle.fields.specs.Fields.{putNumber, putSpan, putNames, putIds, putEntry, putBody, putProtected, putMessage};
 
-// How many numbers there are.
-pub const FIELDS: usize = 47;
-
 // A number at a place; nothing where the array has no such place.
 fn put(fields: &mut [u64], at: usize, v: u64)
     ensures { λ _. ⌜ now (fields .exit) ≡ putNumber at v (now (fields .entry)) ⌝ }
