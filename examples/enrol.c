@@ -1,0 +1,186 @@
+/*
+ * Board 7 enrols at a registrar, with both ends in one program. Prints each message with the parts that the library
+ * finds in it, each call's answer and the states after it, and shows two refusals and a repeated certConf on the way.
+ * Ends with 1 if anything is not as expected.
+ */
+#include "enrol.h"
+
+#include <stdio.h>
+#include <string.h>
+
+enum { BOARD = 7, OTHER_BOARD = 8 };
+
+struct ends {
+    uint8_t table[DUSKSTALL_TABLE_BYTES];         /* the registrar's */
+    uint8_t enrolment[DUSKSTALL_ENROLMENT_BYTES]; /* board 7's */
+    uint8_t answer[DUSKSTALL_REGISTRAR_ANSWER_BYTES];
+    uint8_t message[DUSKSTALL_MESSAGE_LIMIT]; /* on the line */
+    size_t len;
+};
+
+static int failed;
+
+static void expect(int holds, const char *what)
+{
+    if (!holds) {
+        printf("  NOT AS EXPECTED: %s\n", what);
+        failed = 1;
+    }
+}
+
+static void expect_states(const struct ends *e, int transaction, int enrolment)
+{
+    show_states(e->table, e->enrolment);
+    expect(e->table[DUSKSTALL_TRANSACTION_STATE] == transaction, "the state of slot 0");
+    expect(e->enrolment[DUSKSTALL_ENROLMENT_STATE] == enrolment, "the state of the enrolment");
+}
+
+/* ---- What the two hosts do with a message ---- */
+
+/* The registrar's host: who protected it is the verdict. */
+static uint64_t registrar_gets(struct ends *e)
+{
+    uint8_t nonce[DUSKSTALL_NONCE_BYTES];
+    int sender = verify(e->message, e->len);
+    int good = sender > REGISTRAR;
+    draw(nonce);
+    show_message(e->message, e->len);
+    if (good)
+        printf("  verdict: good, board %d\n", sender);
+    else
+        printf("  verdict: bad\n");
+    uint64_t code = duskstall_registrar_message(e->table, sizeof e->table, e->message, e->len, (uint8_t)good,
+                                                (uint16_t)(good ? sender : 0), nonce, sizeof nonce, e->answer,
+                                                sizeof e->answer);
+    show_registrar_answer("registrar message", code, e->answer);
+    return code;
+}
+
+/* The board's host: it hashes the certificate if there is one, and accepts it. */
+static uint64_t board_gets(struct ends *e)
+{
+    uint8_t nonce[DUSKSTALL_NONCE_BYTES], hash[DUSKSTALL_HASH_BYTES] = {0};
+    uint64_t fields[DUSKSTALL_FIELDS];
+    int good = verify(e->message, e->len) == REGISTRAR;
+    if (duskstall_read(e->message, e->len, fields, DUSKSTALL_FIELDS) == 0 && fields[DUSKSTALL_FIELD_CERTIFICATE] != 0)
+        hash_of(e->message + fields[DUSKSTALL_FIELD_CERTIFICATE], fields[DUSKSTALL_FIELD_CERTIFICATE + 1], hash);
+    draw(nonce);
+    show_message(e->message, e->len);
+    printf("  verdict: %s\n", good ? "good, the registrar" : "bad");
+    uint64_t code = duskstall_end_entity_message(e->enrolment, sizeof e->enrolment, e->message, e->len, (uint8_t)good, 1,
+                                                 hash, sizeof hash, nonce, sizeof nonce, e->answer, sizeof e->answer);
+    show_end_entity_answer("end entity message", code, e->answer);
+    return code;
+}
+
+/* Encodes what the last call gave to be sent. */
+static void send_from(struct ends *e, const uint8_t *outgoing, int sender)
+{
+    expect(outgoing != NULL, "something to send");
+    e->len = outgoing != NULL ? encode(outgoing, sender, e->message) : 0;
+}
+
+/* ---- The enrolment ---- */
+
+static void request(struct ends *e)
+{
+    uint8_t id[DUSKSTALL_ID_BYTES], nonce[DUSKSTALL_NONCE_BYTES];
+    printf("Board %d starts an enrolment\n", BOARD);
+    draw(id);
+    draw(nonce);
+    uint64_t code = duskstall_end_entity_start(e->enrolment, sizeof e->enrolment, DUSKSTALL_IR, id, sizeof id, nonce,
+                                               sizeof nonce, e->answer, sizeof e->answer);
+    show_end_entity_answer("end entity start", code, e->answer);
+    expect(code == DUSKSTALL_DONE, "the start");
+    expect_states(e, DUSKSTALL_TRANSACTION_FREE, DUSKSTALL_ENROLMENT_ASKED);
+    send_from(e, duskstall_end_entity_outgoing(e->answer), BOARD);
+}
+
+/* The header says one byte less than it has: its last element sticks out. */
+static void damaged_request(struct ends *e)
+{
+    struct ends before = *e;
+    uint64_t fields[DUSKSTALL_FIELDS];
+    printf("The line damages the ir: the header's length is one too low\n");
+    duskstall_read(e->message, e->len, fields, DUSKSTALL_FIELDS);
+    e->message[fields[DUSKSTALL_FIELD_HEADER] + 1]--;
+    expect(registrar_gets(e) == DUSKSTALL_REFUSED, "a refusal");
+    expect(e->answer[DUSKSTALL_ANSWER_REFUSAL] == DUSKSTALL_REFUSED_SYNTAX, "refusal 2");
+    expect(memcmp(before.table, e->table, sizeof e->table) == 0, "the table as it was");
+    expect_states(e, DUSKSTALL_TRANSACTION_FREE, DUSKSTALL_ENROLMENT_ASKED);
+    memcpy(e->message, before.message, e->len);
+}
+
+static void grant(struct ends *e)
+{
+    uint8_t id[DUSKSTALL_ID_BYTES], nonce[DUSKSTALL_NONCE_BYTES], hash[DUSKSTALL_HASH_BYTES], certificate[256];
+    printf("The registrar gets the ir\n");
+    expect(registrar_gets(e) == DUSKSTALL_DONE, "the request taken");
+    expect_states(e, DUSKSTALL_TRANSACTION_ASKED, DUSKSTALL_ENROLMENT_ASKED);
+
+    printf("Its host issues a certificate\n");
+    memcpy(id, e->table + DUSKSTALL_TRANSACTION_ID, sizeof id); /* a copy: the table is lent to the call */
+    hash_of(certificate, issue_certificate(id, certificate), hash);
+    draw(nonce);
+    uint64_t code = duskstall_registrar_issue(e->table, sizeof e->table, id, sizeof id, nonce, sizeof nonce, hash,
+                                              sizeof hash, e->answer, sizeof e->answer);
+    show_registrar_answer("registrar issue", code, e->answer);
+    expect(code == DUSKSTALL_DONE, "the request granted");
+    expect_states(e, DUSKSTALL_TRANSACTION_GRANTED, DUSKSTALL_ENROLMENT_ASKED);
+    send_from(e, duskstall_registrar_outgoing(e->answer), REGISTRAR);
+}
+
+/* Board 8 sends board 7's certConf as its own, protected with its own key. */
+static void stolen_confirmation(struct ends *e, const uint8_t *outgoing)
+{
+    printf("Board %d sends the same certConf, protected with its own key\n", OTHER_BOARD);
+    send_from(e, outgoing, OTHER_BOARD);
+    expect(registrar_gets(e) == DUSKSTALL_REFUSED, "a refusal");
+    expect(e->answer[DUSKSTALL_ANSWER_REFUSAL] == DUSKSTALL_REFUSED_OTHER_BOARD, "refusal 13");
+    expect_states(e, DUSKSTALL_TRANSACTION_GRANTED, DUSKSTALL_ENROLMENT_CONFIRMING);
+}
+
+static void confirm(struct ends *e)
+{
+    uint8_t outgoing[DUSKSTALL_OUTGOING_BYTES];
+    printf("Board %d gets the ip, and accepts the certificate\n", BOARD);
+    expect(board_gets(e) == DUSKSTALL_DONE, "the response taken");
+    expect_states(e, DUSKSTALL_TRANSACTION_GRANTED, DUSKSTALL_ENROLMENT_CONFIRMING);
+    memcpy(outgoing, e->answer + DUSKSTALL_END_ENTITY_OUTGOING, sizeof outgoing);
+
+    stolen_confirmation(e, outgoing);
+
+    printf("The registrar gets board %d's certConf\n", BOARD);
+    send_from(e, outgoing, BOARD);
+    expect(registrar_gets(e) == DUSKSTALL_DONE, "the confirmation taken");
+    expect_states(e, DUSKSTALL_TRANSACTION_CONFIRMED, DUSKSTALL_ENROLMENT_CONFIRMING);
+
+    printf("The pkiConf is lost, and the line repeats the certConf\n");
+    expect(registrar_gets(e) == DUSKSTALL_AGAIN, "the same once more");
+    expect_states(e, DUSKSTALL_TRANSACTION_CONFIRMED, DUSKSTALL_ENROLMENT_CONFIRMING);
+    send_from(e, duskstall_registrar_outgoing(e->answer), REGISTRAR);
+}
+
+static void finish(struct ends *e)
+{
+    printf("Board %d gets the second pkiConf\n", BOARD);
+    expect(board_gets(e) == DUSKSTALL_DONE, "the pkiConf taken");
+    expect_states(e, DUSKSTALL_TRANSACTION_CONFIRMED, DUSKSTALL_ENROLMENT_SURE);
+    expect(memcmp(e->table + DUSKSTALL_TRANSACTION_HASH, e->enrolment + DUSKSTALL_ENROLMENT_HASH,
+                  DUSKSTALL_HASH_BYTES) == 0,
+           "the same hash at both ends");
+}
+
+int main(void)
+{
+    static struct ends e;
+    expect(duskstall_registrar_empty(e.table, sizeof e.table) == DUSKSTALL_DONE, "the empty table");
+    request(&e);
+    damaged_request(&e);
+    grant(&e);
+    confirm(&e);
+    finish(&e);
+    if (!failed)
+        printf("The registrar says Confirmed, board %d says Sure, and both hold the same hash.\n", BOARD);
+    return failed;
+}

@@ -1,0 +1,78 @@
+/*
+ * Stand-ins for what a host does itself, so that the example needs nothing but the library. None of it is cryptography:
+ * a real host draws at random, signs or computes a MAC, hashes with SHA-256, and issues X.509 certificates.
+ */
+#include "enrol.h"
+
+#include <string.h>
+
+/* Numbered and not random, so that the transcript can be followed. */
+void draw(uint8_t *sixteen)
+{
+    static uint8_t drawn;
+    memset(sixteen, ++drawn, DUSKSTALL_ID_BYTES);
+}
+
+/* SEQUENCE { OCTET STRING }, with the id over and over: from outside a certificate is any SEQUENCE. */
+size_t issue_certificate(const uint8_t *id, uint8_t *certificate)
+{
+    enum { IDS = 15, CONTENT = IDS * DUSKSTALL_ID_BYTES };
+    const uint8_t head[] = {0x30, 0x81, 3 + CONTENT, 0x04, 0x81, CONTENT};
+    memcpy(certificate, head, sizeof head);
+    for (size_t i = 0; i < IDS; i++)
+        memcpy(certificate + sizeof head + i * DUSKSTALL_ID_BYTES, id, DUSKSTALL_ID_BYTES);
+    return sizeof head + CONTENT;
+}
+
+/* FNV-1a. */
+static uint64_t checksum(uint64_t sum, const uint8_t *bytes, size_t len)
+{
+    while (len-- > 0)
+        sum = (sum ^ *bytes++) * 0x100000001B3u;
+    return sum;
+}
+
+static void put_number(uint64_t number, uint8_t *eight)
+{
+    for (int i = 0; i < 8; i++)
+        eight[i] = (uint8_t)(number >> (56 - 8 * i));
+}
+
+void hash_of(const uint8_t *bytes, size_t len, uint8_t *hash)
+{
+    for (uint64_t i = 0; i < DUSKSTALL_HASH_BYTES / 8; i++)
+        put_number(checksum(0xCBF29CE484222325u + i, bytes, len), hash + 8 * i);
+}
+
+/* Over the DER SEQUENCE of header and body (RFC 9810 5.1.3), which no message holds as such: its head is put before. */
+void protection_of(int sender, const uint8_t *header_and_body, size_t len, uint8_t *protection)
+{
+    uint8_t head[4] = {0x30, 0x82, (uint8_t)(len >> 8), (uint8_t)len};
+    size_t head_len = 4;
+    if (len < 128) {
+        head[1] = (uint8_t)len;
+        head_len = 2;
+    } else if (len < 256) {
+        head[1] = 0x81;
+        head[2] = (uint8_t)len;
+        head_len = 3;
+    }
+    uint64_t key = 0x6B65790000000000u + (uint64_t)sender;
+    put_number(checksum(checksum(key, head, head_len), header_and_body, len), protection);
+}
+
+/* The sender's number is in senderKID, one byte; the protection ends its element. */
+int verify(const uint8_t *message, size_t len)
+{
+    uint64_t fields[DUSKSTALL_FIELDS];
+    uint8_t protection[PROTECTION_BYTES];
+    if (duskstall_read(message, len, fields, DUSKSTALL_FIELDS) != 0)
+        return NOBODY;
+    uint64_t protection_len = fields[DUSKSTALL_FIELD_PROTECTION + 1];
+    if (fields[DUSKSTALL_FIELD_SENDER_KID + 1] != 1 || protection_len < PROTECTION_BYTES)
+        return NOBODY;
+    int sender = message[fields[DUSKSTALL_FIELD_SENDER_KID]];
+    const uint8_t *end = message + fields[DUSKSTALL_FIELD_PROTECTION] + protection_len;
+    protection_of(sender, message + fields[DUSKSTALL_FIELD_HEADER], fields[DUSKSTALL_FIELD_PROTECTED_LENGTH], protection);
+    return memcmp(end - PROTECTION_BYTES, protection, PROTECTION_BYTES) == 0 ? sender : NOBODY;
+}

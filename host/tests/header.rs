@@ -1,0 +1,219 @@
+//! Holds `include/duskstall.h` to this crate: sizes, codes, states, places, and
+//! the refusals with their bits and words. `examples/header_check.c` holds it
+//! to the library from C.
+
+#[path = "header/refusals.rs"]
+mod refusals;
+
+use duskstall_host::testing::messages;
+use duskstall_host::{compiled, library, Board, CertHash, Nonce, Refusal, TransactionId};
+use duskstall_host::{Enrolment, Reading, Span, Transaction, ENROLMENT_STATES, TRANSACTION_STATES};
+use duskstall_host::{END_ENTITY_ANSWER_BYTES, ENROLMENT_BYTES, REGISTRAR_ANSWER_BYTES};
+use duskstall_host::{SLOTS, TABLE_BYTES, TRANSACTION_BYTES};
+use std::collections::{BTreeMap, BTreeSet};
+use std::fmt::Debug;
+
+const HEADER: &str = include_str!("../../include/duskstall.h");
+
+/// The value of a constant, which the header sets once.
+fn value(name: &str) -> usize {
+    let values: Vec<&str> = HEADER
+        .lines()
+        .filter_map(|line| {
+            let (before, after) = line.split_once(&format!("DUSKSTALL_{name} "))?;
+            let set = before.trim() == "#define" || after.starts_with("= ");
+            set.then(|| after.trim_start_matches("= "))
+        })
+        .collect();
+    let [value] = values[..] else {
+        panic!("{name} is set {} times", values.len());
+    };
+    let digits = value.split(|c: char| !c.is_ascii_digit()).next();
+    digits.and_then(|digits| digits.parse().ok()).expect(name)
+}
+
+#[test]
+fn sizes_and_codes() {
+    let code = |code: u64| code as usize;
+    for (name, expected) in [
+        ("SLOTS", SLOTS),
+        ("TRANSACTION_BYTES", TRANSACTION_BYTES),
+        ("TABLE_BYTES", TABLE_BYTES),
+        ("ENROLMENT_BYTES", ENROLMENT_BYTES),
+        ("REGISTRAR_ANSWER_BYTES", REGISTRAR_ANSWER_BYTES),
+        ("END_ENTITY_ANSWER_BYTES", END_ENTITY_ANSWER_BYTES),
+        ("ID_BYTES", size_of::<TransactionId>()),
+        ("NONCE_BYTES", size_of::<Nonce>()),
+        ("HASH_BYTES", size_of::<CertHash>()),
+        ("FIELDS", compiled::FIELDS),
+        ("NO_STATE", code(library::NO_STATE)),
+        ("BAD_LENGTH", code(library::BAD_LENGTH)),
+        ("NO_ROOM", code(library::NO_ROOM)),
+        ("FEW_FIELDS", code(compiled::TOO_FEW_FIELDS)),
+    ] {
+        assert_eq!(value(name), expected, "{name}");
+    }
+}
+
+#[test]
+fn states() {
+    let check = |prefix: &str, state: &dyn Debug, number: usize| {
+        let name = format!("{prefix}_{state:?}").to_uppercase();
+        assert_eq!(value(&name), number, "{name}");
+    };
+    for (number, state) in TRANSACTION_STATES.iter().enumerate() {
+        check("TRANSACTION", state, number);
+    }
+    for (number, state) in ENROLMENT_STATES.iter().enumerate() {
+        check("ENROLMENT", state, number);
+    }
+}
+
+#[test]
+fn places_of_a_transaction_and_an_enrolment() {
+    let id = TransactionId([1; 16]);
+    let hash = CertHash([2; 32]);
+    let transaction = Transaction {
+        id,
+        board: Board(0x0304),
+        kind: 5,
+        taken: Nonce([6; 16]),
+        sent: Nonce([7; 16]),
+        hash,
+        state: TRANSACTION_STATES[6],
+    };
+    let enrolment = Enrolment {
+        id,
+        kind: 5,
+        last: Nonce([8; 16]),
+        taken: Nonce([6; 16]),
+        hash,
+        state: ENROLMENT_STATES[6],
+    };
+    for (bytes, record, places) in [
+        (
+            transaction.pack(),
+            "TRANSACTION",
+            &[("BOARD", 3), ("SENT", 7)][..],
+        ),
+        (enrolment.pack(), "ENROLMENT", &[("LAST", 8)]),
+    ] {
+        let shared = [
+            ("ID", 1),
+            ("KIND", 5),
+            ("TAKEN", 6),
+            ("HASH", 2),
+            ("STATE", 6),
+        ];
+        for (field, first) in shared.iter().chain(places) {
+            let place = value(&format!("{record}_{field}"));
+            assert_eq!(bytes[place], *first, "{record}_{field}");
+            assert!(place == 0 || bytes[place - 1] != *first || *field == "STATE");
+        }
+    }
+}
+
+#[test]
+fn places_of_a_reading() {
+    let mut seen = BTreeSet::new();
+    for message in messages::bases() {
+        let message = message.encode();
+        let mut fields = [0; compiled::FIELDS];
+        assert_eq!(compiled::read_fields(&message, &mut fields), 0);
+        let reading = compiled::read(&message).expect("it was clean");
+        for (name, number) in numbers(&reading) {
+            let place = value(&format!("FIELD_{name}"));
+            assert_eq!(fields[place], number, "{name}");
+            seen.extend((number != 0).then_some(place));
+        }
+        for (name, part) in parts(&reading) {
+            let place = value(&format!("FIELD_{name}"));
+            let found = [fields[place] as usize, fields[place + 1] as usize];
+            assert_eq!(found, [part.start, part.len], "{name}");
+            seen.extend(
+                (part.start != 0)
+                    .then_some([place, place + 1])
+                    .into_iter()
+                    .flatten(),
+            );
+        }
+    }
+    // Each place held something in one message or another.
+    assert_eq!(seen, (0..compiled::FIELDS).collect());
+}
+
+fn numbers(reading: &Reading) -> [(&'static str, u64); 7] {
+    [
+        ("KIND", reading.kind.into()),
+        ("VERSION", reading.version.into()),
+        ("ENTRIES", reading.entries as u64),
+        ("CERT_REQ_ID", reading.number.into()),
+        ("HAS_STATUS", reading.has_status.into()),
+        ("STATUS", reading.status.into()),
+        ("PROTECTED_LENGTH", reading.protected_len as u64),
+    ]
+}
+
+fn parts(reading: &Reading) -> [(&'static str, Span); 20] {
+    [
+        ("HEADER", reading.header),
+        ("BODY", reading.body),
+        ("PROTECTION", reading.protection),
+        ("EXTRA_CERTS", reading.extra_certs),
+        ("SENDER", reading.sender),
+        ("RECIPIENT", reading.recipient),
+        ("MESSAGE_TIME", reading.message_time),
+        ("PROTECTION_ALG", reading.protection_alg),
+        ("SENDER_KID", reading.sender_kid),
+        ("RECIP_KID", reading.recip_kid),
+        ("TRANSACTION_ID", reading.transaction_id),
+        ("SENDER_NONCE", reading.sender_nonce),
+        ("RECIP_NONCE", reading.recip_nonce),
+        ("FREE_TEXT", reading.free_text),
+        ("GENERAL_INFO", reading.general_info),
+        ("CA_PUBS", reading.ca_pubs),
+        ("CERT_HASH", reading.cert_hash),
+        ("HASH_ALG", reading.hash_alg),
+        ("CERTIFICATE", reading.certificate),
+        ("REQUEST", reading.request),
+    ]
+}
+
+/// The rows of the table of refusals: number, bit and words.
+fn rows() -> Vec<(u8, Option<u8>, &'static str)> {
+    let rows = HEADER.split("row(DUSKSTALL_REFUSED_").skip(1);
+    rows.map(|row| {
+        let (numbers, rest) = row.split_once('"').expect("the words");
+        let (words, _) = rest.split_once("\")").expect("the end of the row");
+        let numbers: Vec<u8> = numbers
+            .split(',')
+            .filter_map(|number| number.trim().parse().ok())
+            .collect();
+        let bit = Some(numbers[1]).filter(|bit| usize::from(*bit) != value("NO_BIT"));
+        (numbers[0], bit, words)
+    })
+    .collect()
+}
+
+#[test]
+fn refusals_in_words() {
+    for (number, bit, words) in rows() {
+        let refusal = Refusal {
+            number,
+            bit,
+            fault: None,
+        };
+        assert_eq!(refusal.reason(), words, "{number}");
+    }
+}
+
+#[test]
+fn refusals_and_their_bits() {
+    let mut bits: BTreeMap<u8, BTreeSet<Option<u8>>> = BTreeMap::new();
+    for (number, bit, _) in rows() {
+        bits.entry(number).or_default().insert(bit);
+    }
+    // The one row with two bits: "11 if Confirmed, else 2".
+    bits.entry(20).or_default().insert(Some(11));
+    assert_eq!(refusals::met(), bits);
+}
