@@ -179,6 +179,7 @@ static void steps(int call, size_t place, const int *leads)
         struct lent l = lent_for(call);
         l.bytes[STATE][place] = (uint8_t)from;
         uint64_t code = make(call, &l);
+        expect(code, l.bytes[ANSWER][DUSKSTALL_ANSWER_CODE], calls[call].name);
         if (leads[from] < 0) {
             expect(DUSKSTALL_REFUSED, code, calls[call].name);
             expect((uint64_t)-leads[from], l.bytes[ANSWER][DUSKSTALL_ANSWER_REFUSAL], calls[call].name);

@@ -5,6 +5,7 @@
 #[path = "header/refusals.rs"]
 mod refusals;
 
+use duskstall_host::testing::der::hex;
 use duskstall_host::testing::messages;
 use duskstall_host::{compiled, library, Board, CertHash, Nonce, Refusal, TransactionId};
 use duskstall_host::{Enrolment, Reading, Span, Transaction, ENROLMENT_STATES, TRANSACTION_STATES};
@@ -66,6 +67,28 @@ fn states() {
     }
     for (number, state) in ENROLMENT_STATES.iter().enumerate() {
         check("ENROLMENT", state, number);
+    }
+}
+
+#[test]
+fn kinds() {
+    for (number, name) in messages::KIND_NAMES.iter().enumerate() {
+        assert_eq!(value(&name.to_uppercase()), number, "{name}");
+    }
+}
+
+#[test]
+fn rules() {
+    for (name, message) in [
+        ("TAG", "0000"),
+        ("LENGTH", "3080"),
+        ("FORM", "2200"),
+        ("CONTENT", "010101"),
+        ("GRAMMAR", "3000"),
+    ] {
+        let refused = compiled::read(&hex(message)).expect_err(name);
+        let rule = value(&format!("RULE_{name}"));
+        assert_eq!(usize::from(refused.rule), rule, "{name}");
     }
 }
 
@@ -216,4 +239,17 @@ fn refusals_and_their_bits() {
     // The one row with two bits: "11 if Confirmed, else 2".
     bits.entry(20).or_default().insert(Some(11));
     assert_eq!(refusals::met(), bits);
+
+    // The bits that have names are those of the rows.
+    let (_, names) = HEADER.split_once("enum duskstall_failure {").expect("it");
+    let (names, _) = names.split_once('}').expect("its end");
+    let named = names.split("= ").skip(1).map(|rest| {
+        let digits = rest.split(|c: char| !c.is_ascii_digit()).next();
+        let bit: u8 = digits
+            .and_then(|digits| digits.parse().ok())
+            .expect("a bit");
+        Some(bit).filter(|bit| usize::from(*bit) != value("NO_BIT"))
+    });
+    let of_rows: BTreeSet<Option<u8>> = bits.into_values().flatten().collect();
+    assert_eq!(named.collect::<BTreeSet<_>>(), of_rows);
 }

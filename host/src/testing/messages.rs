@@ -8,6 +8,13 @@ pub const OPTIONAL_FIELDS: u8 = 9;
 /// The body's last choice, 26.
 pub const LAST_KIND: u8 = 26;
 
+/// The body's choices by number, with the names that RFC 9810 and 9483 use.
+pub const KIND_NAMES: [&str; LAST_KIND as usize + 1] = [
+    "ir", "ip", "cr", "cp", "p10cr", "popdecc", "popdecr", "kur", "kup", "krr", "krp", "rr", "rp",
+    "ccr", "ccp", "ckuann", "cann", "rann", "crlann", "pkiConf", "nested", "genm", "genp", "error",
+    "certConf", "pollReq", "pollRep",
+];
+
 /// The kinds that are a SEQUENCE of entries.
 pub const KINDS_WITH_ENTRIES: [u8; 7] = [0, 1, 2, 3, 7, 8, 24];
 
