@@ -67,8 +67,9 @@ static uint64_t board_gets(struct ends *e)
     draw(nonce);
     show_message(e->message, e->len);
     printf("  verdict: %s\n", good ? "good, the registrar" : "bad");
-    uint64_t code = duskstall_end_entity_message(e->enrolment, sizeof e->enrolment, e->message, e->len, (uint8_t)good, 1,
-                                                 hash, sizeof hash, nonce, sizeof nonce, e->answer, sizeof e->answer);
+    uint64_t code = duskstall_end_entity_message(e->enrolment, sizeof e->enrolment, e->message, e->len, (uint8_t)good,
+                                                 1, hash, sizeof hash, nonce, sizeof nonce, e->answer,
+                                                 sizeof e->answer);
     show_end_entity_answer("end entity message", code, e->answer);
     return code;
 }

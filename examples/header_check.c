@@ -228,11 +228,12 @@ static void limits(void)
     static uint8_t bytes[DUSKSTALL_MESSAGE_LIMIT + 1];
     uint64_t fields[DUSKSTALL_FIELDS];
     expect(DUSKSTALL_REFUSED_LENGTH, duskstall_read(bytes, 0, fields, DUSKSTALL_FIELDS), "read nothing");
-    expect(DUSKSTALL_REFUSED_SYNTAX, duskstall_read(bytes, sizeof bytes - 1, fields, DUSKSTALL_FIELDS), "read at the limit");
+    expect(DUSKSTALL_REFUSED_SYNTAX, duskstall_read(bytes, DUSKSTALL_MESSAGE_LIMIT, fields, DUSKSTALL_FIELDS), "read");
     expect(DUSKSTALL_RULE_TAG, fields[DUSKSTALL_FIELD_FAULT_RULE], "the rule of a tag 0");
     expect(DUSKSTALL_REFUSED_LENGTH, duskstall_read(bytes, sizeof bytes, fields, DUSKSTALL_FIELDS), "read too much");
     expect(DUSKSTALL_FEW_FIELDS, duskstall_read(bytes, 1, fields, DUSKSTALL_FIELDS - 1), "read into too few fields");
 
+    expect(0, duskstall_check(bytes, 0), "no element at all");
     /* SEQUENCEs inside each other */
     for (int depth = 0; depth <= DUSKSTALL_DEPTH_LIMIT; depth++) {
         bytes[2 * depth] = 0x30;

@@ -72,7 +72,8 @@ int verify(const uint8_t *message, size_t len)
     if (fields[DUSKSTALL_FIELD_SENDER_KID + 1] != 1 || protection_len < PROTECTION_BYTES)
         return NOBODY;
     int sender = message[fields[DUSKSTALL_FIELD_SENDER_KID]];
+    const uint8_t *header = message + fields[DUSKSTALL_FIELD_HEADER];
     const uint8_t *end = message + fields[DUSKSTALL_FIELD_PROTECTION] + protection_len;
-    protection_of(sender, message + fields[DUSKSTALL_FIELD_HEADER], fields[DUSKSTALL_FIELD_PROTECTED_LENGTH], protection);
+    protection_of(sender, header, fields[DUSKSTALL_FIELD_PROTECTED_LENGTH], protection);
     return memcmp(end - PROTECTION_BYTES, protection, PROTECTION_BYTES) == 0 ? sender : NOBODY;
 }

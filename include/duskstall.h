@@ -119,8 +119,8 @@ extern "C" {
 
 enum duskstall_code {
     DUSKSTALL_DONE = 0,
-    DUSKSTALL_AGAIN = 1,        /* a certConf repeated: nothing changed, and another pkiConf is to be sent */
-    DUSKSTALL_REFUSED = 2,      /* nothing changed; the answer has the number of the refusal */
+    DUSKSTALL_AGAIN = 1,        /* a certConf repeated: the table is as it was, and another pkiConf is to be sent */
+    DUSKSTALL_REFUSED = 2,      /* the table or the enrolment is as it was; the answer has the number of the refusal */
     /* The call was not made, and no array has changed. The lowest that applies is returned. */
     DUSKSTALL_NO_STATE = 251,   /* the table or the enrolment is none: its length, or a state that is above 6 */
     DUSKSTALL_BAD_LENGTH = 252, /* an id, a nonce or a hash of another length */
@@ -141,6 +141,7 @@ enum duskstall_code {
     row(DUSKSTALL_REFUSED_NO_NONCE, 5, 18, "senderNonce absent or not 16 bytes")                                       \
     row(DUSKSTALL_REFUSED_UNPROTECTED, 6, 1, "protectionAlg or protection absent")                                     \
     row(DUSKSTALL_REFUSED_VERDICT, 7, 1, "verdict bad")                                                                \
+    /* registrar: taken are 0, 2, 4, 7 and 24; end entity: 19, 23 and the response to its request */                   \
     row(DUSKSTALL_REFUSED_KIND, 8, 2, "kind not taken here")                                                           \
     row(DUSKSTALL_REFUSED_OPENING_NONCE, 9, 2, "opening with recipNonce")                                              \
     row(DUSKSTALL_REFUSED_ID_IN_USE, 10, 21, "opening, id in the book")                                                \
@@ -418,9 +419,11 @@ uint64_t duskstall_registrar_empty(uint8_t *table, size_t table_len);
  * (status 0, or none) or Declined (2); a pkiConf is to be sent. The same once more: AGAIN, with another pkiConf.
  * Refused by 1 to 7, 12 to 20.
  *
- * Any other kind is refused by 1 to 8. Refused by 6 or above, an error with status 2 and the bit is to be sent. (A
- * request that the line repeats is refused by 10, and that error would end the enrolment it opened; bad protection,
- * refused by 6 or 7, likewise. The host may hold such an error back.)
+ * Any other kind is refused by 1 to 8.
+ *
+ * Refused by 6 or above, an error with status 2 and the bit is to be sent, to the id and the nonce that the message
+ * names. Where that is a request which the line repeated (10), or a message without good protection (6, 7), the error
+ * may end an enrolment that goes well: the host may hold it back.
  */
 uint64_t duskstall_registrar_message(uint8_t *table, size_t table_len, const uint8_t *message, size_t message_len,
                                      uint8_t good, uint16_t board, const uint8_t *nonce, size_t nonce_len,
