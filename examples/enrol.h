@@ -1,4 +1,4 @@
-/* The example's parts: stand-ins for a host's own work (host.c), messages in DER (encode.c), the transcript (show.c). */
+/* The example's parts: stand-ins for a host's work (host.c), messages in DER (encode.c), the transcript (show.c). */
 #ifndef ENROL_H
 #define ENROL_H
 

@@ -6,9 +6,9 @@
 static const char *kind_name(uint64_t kind)
 {
     static const char *const names[] = {
-        "ir",   "ip",  "cr",     "cp",   "p10cr", "popdecc", "popdecr", "kur",    "kup",
-        "krr",  "krp", "rr",     "rp",   "ccr",   "ccp",     "ckuann",  "cann",   "rann",
-        "crlann", "pkiConf", "nested", "genm", "genp", "error", "certConf", "pollReq", "pollRep",
+        "ir", "ip", "cr", "cp", "p10cr", "popdecc", "popdecr", "kur", "kup", "krr", "krp", "rr", "rp", "ccr",
+        "ccp", "ckuann", "cann", "rann", "crlann", "pkiConf", "nested", "genm", "genp", "error", "certConf",
+        "pollReq", "pollRep",
     };
     return kind < sizeof names / sizeof names[0] ? names[kind] : "?";
 }
