@@ -249,6 +249,18 @@ static void limits(void)
     expect(DUSKSTALL_NO_STATE, duskstall_registrar_empty(table, DUSKSTALL_TABLE_BYTES + 1), "empty, too long");
 }
 
+/* The sizes that the library tells. */
+static void sizes(void)
+{
+    expect(DUSKSTALL_TABLE_BYTES, duskstall_size(DUSKSTALL_SIZE_TABLE), "size of a table");
+    expect(DUSKSTALL_ENROLMENT_BYTES, duskstall_size(DUSKSTALL_SIZE_ENROLMENT), "size of an enrolment");
+    expect(DUSKSTALL_REGISTRAR_ANSWER_BYTES, duskstall_size(DUSKSTALL_SIZE_REGISTRAR_ANSWER), "size of an answer");
+    expect(DUSKSTALL_END_ENTITY_ANSWER_BYTES, duskstall_size(DUSKSTALL_SIZE_END_ENTITY_ANSWER), "size of its answer");
+    expect(DUSKSTALL_FIELDS, duskstall_size(DUSKSTALL_SIZE_FIELDS), "how many fields");
+    expect(DUSKSTALL_MESSAGE_LIMIT, duskstall_size(DUSKSTALL_SIZE_MESSAGE), "the longest message");
+    expect(0, duskstall_size(DUSKSTALL_SIZE_MESSAGE + 1), "no size");
+}
+
 int main(void)
 {
     for (int call = 0; call < CALLS; call++) {
@@ -258,6 +270,7 @@ int main(void)
     all_steps();
     kinds();
     limits();
+    sizes();
     if (!failed)
         printf("the header says what the library does\n");
     return failed;

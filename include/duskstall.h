@@ -387,6 +387,26 @@ uint64_t duskstall_read(const uint8_t *message, size_t message_len, uint64_t *fi
  */
 uint64_t duskstall_check(const uint8_t *bytes, size_t bytes_len);
 
+/* ---- Sizes, as the library has them ------------------------------------------------------------------------------ */
+
+enum duskstall_sized {
+    DUSKSTALL_SIZE_TABLE = 0,             /* DUSKSTALL_TABLE_BYTES */
+    DUSKSTALL_SIZE_ENROLMENT = 1,         /* DUSKSTALL_ENROLMENT_BYTES */
+    DUSKSTALL_SIZE_REGISTRAR_ANSWER = 2,  /* DUSKSTALL_REGISTRAR_ANSWER_BYTES */
+    DUSKSTALL_SIZE_END_ENTITY_ANSWER = 3, /* DUSKSTALL_END_ENTITY_ANSWER_BYTES */
+    DUSKSTALL_SIZE_FIELDS = 4,            /* DUSKSTALL_FIELDS */
+    DUSKSTALL_SIZE_MESSAGE = 5            /* DUSKSTALL_MESSAGE_LIMIT */
+};
+
+/*
+ * The size that the linked library asks for, so that a host can see at its start that this header belongs to it.
+ *
+ *   what   enum duskstall_sized
+ *
+ * Returns the size; 0 for any other number.
+ */
+uint64_t duskstall_size(uint8_t what);
+
 /* ---- The registrar ----------------------------------------------------------------------------------------------- */
 
 /*

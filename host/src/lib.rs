@@ -71,3 +71,8 @@ pub use states::{
     SLOTS, TABLE_BYTES, TRANSACTION_BYTES, TRANSACTION_STATES,
 };
 pub use types::{Reading, Refused, Span};
+
+/// The README's example in Rust.
+#[cfg(doctest)]
+#[doc = include_str!("../../README.md")]
+struct Readme;

@@ -23,6 +23,7 @@ pub const NO_ROOM: u64 = 253;
 extern "C" {
     fn duskstall_read(message: *const u8, len: usize, fields: *mut u64, fields_len: usize) -> u64;
     fn duskstall_check(bytes: *const u8, len: usize) -> u64;
+    fn duskstall_size(what: u8) -> u64;
     fn duskstall_registrar_empty(table: *mut u8, table_len: usize) -> u64;
     fn duskstall_registrar_message(
         table: *mut u8,
@@ -126,6 +127,22 @@ pub fn read(message: &[u8], fields: &mut [u64]) -> u64 {
 pub fn check(bytes: &[u8]) -> u64 {
     // SAFETY: as said above the declarations.
     unsafe { duskstall_check(bytes.as_ptr(), bytes.len()) }
+}
+
+/// The size that the library has for a table (0), an enrolment (1), the
+/// registrar's answer (2), an end entity's (3), the numbers of a reading (4)
+/// and the longest message (5); 0 for any other number.
+///
+/// ```
+/// use duskstall_host::{library, ENROLMENT_BYTES, TABLE_BYTES};
+///
+/// assert_eq!(library::size(0), TABLE_BYTES as u64);
+/// assert_eq!(library::size(1), ENROLMENT_BYTES as u64);
+/// assert_eq!(library::size(6), 0);
+/// ```
+pub fn size(what: u8) -> u64 {
+    // SAFETY: as said above the declarations.
+    unsafe { duskstall_size(what) }
 }
 
 /// The empty table.
