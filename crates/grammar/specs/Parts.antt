@@ -1,4 +1,4 @@
--- Grammar rules that several parts of a message share (document 01, "The parts of a message"; RFC 9810 appendix A).
+-- Grammar rules that several parts of a message share (document 01, "The parts of a message"; RFC 9810 appendix F).
 -- An optional part is recognised by its tag byte; its inside must then fit.
 use Prim.Native.Nat.{ℕ, _-_, _/_, _%_, _^_}
 use mathlib.Core.List.{List}

@@ -45,8 +45,10 @@ fn put_message(m: Message) {
 }
 
 // One byte more than a message may have tells a longer one; nothing after it is waited for.
+const ROOM: usize = message::MAX_MESSAGE + 1;
+
 fn main() {
-    let mut buffer = [0u8; 16385];
+    let mut buffer = [0u8; ROOM];
     let n = io::read_full(STDIN_FILENO, &mut buffer);
     let reading = message::read(&buffer[..n]);
     match reading {
