@@ -1,5 +1,6 @@
-//! The documents name what is there: each name in docs/PROMISES.md is found in the tree, and each public function
-//! of the crates and each wrong answer of their must-fail edits is named in it.
+//! The documents name what is there: each name in docs/ is found in the tree; docs/PROMISES.md names each wrong answer of
+//! the must-fail edits, and each public function with two of them. And what the sources keep to: public functions require
+//! nothing, and functions are small.
 
 use std::collections::BTreeSet;
 use std::fs;
@@ -97,13 +98,11 @@ fn names_of_the_tree() -> BTreeSet<String> {
     names
 }
 
-#[test]
-fn promises_name_what_exists() {
-    let promises = text(&root().join("docs/PROMISES.md"));
-    let names = names_of_the_tree();
+/// The names in a document's backticks that are not in the tree, and how many were looked at.
+fn missing_names(document: &str, names: &BTreeSet<String>) -> (BTreeSet<String>, usize) {
     let mut looked_at = 0;
     let mut missing = BTreeSet::new();
-    for quote in quoted(&promises) {
+    for quote in quoted(document) {
         for word in words(quote).filter(|word| word.chars().count() > 1) {
             looked_at += 1;
             if !names.contains(word) && word.parse::<u64>().is_err() {
@@ -111,49 +110,135 @@ fn promises_name_what_exists() {
             }
         }
     }
-    println!("names in PROMISES.md: {looked_at}, missing {}", missing.len());
-    assert!(missing.is_empty(), "not in the tree: {missing:#?}");
-    assert!(looked_at > 500, "the document was not read");
+    (missing, looked_at)
+}
+
+/// A function of a crate: its contract and its body.
+struct Function {
+    name: String,
+    path: PathBuf,
+    public: bool,
+    requires: bool,
+    lines: usize,
+    loops: usize,
+}
+
+/// The functions of one source file. A contract ends where a line is a lone `{` or the first line ends with one.
+fn functions(path: &Path) -> Vec<Function> {
+    let content = text(path);
+    let lines: Vec<&str> = content.lines().collect();
+    let mut found = Vec::new();
+    for (at, line) in lines.iter().enumerate() {
+        let head = line.trim_start();
+        let indent = line.len() - head.len();
+        let signature = head
+            .trim_start_matches("pub(crate) ")
+            .trim_start_matches("pub ")
+            .trim_start_matches("extern \"C\" ");
+        let Some(rest) = signature.strip_prefix("fn ") else { continue };
+        let opens = |l: &&str| l.trim() == "{" || (*l == *line && l.ends_with('{'));
+        let body = at + lines[at..].iter().position(|l| opens(&l)).expect("a body");
+        let closing = format!("{}}}", " ".repeat(indent));
+        let end = body + lines[body..].iter().position(|l| *l == closing).expect("its end");
+        found.push(Function {
+            name: words(rest).next().expect("a name").to_string(),
+            path: path.to_path_buf(),
+            public: head.starts_with("pub ") && !head.contains("fn main("),
+            requires: lines[at..body].iter().any(|l| l.trim().starts_with("requires")),
+            lines: end - body - 1,
+            loops: lines[body..end].iter().filter(|l| l.trim().starts_with("while ")).count(),
+        });
+    }
+    found
+}
+
+fn all_functions() -> Vec<Function> {
+    let sources = files(&root().join("crates"));
+    let code = sources.iter().filter(|path| has_extension(path, "rt"));
+    let all: Vec<Function> = code.flat_map(|path| functions(path)).collect();
+    assert!(all.len() > 200, "the sources were not read");
+    all
+}
+
+fn all_labels() -> BTreeSet<String> {
+    let all: BTreeSet<String> = edits().iter().flat_map(|edit| labels(edit)).collect();
+    assert!(all.len() > 100, "the edits were not read");
+    all
+}
+
+fn promises() -> String {
+    text(&root().join("docs/PROMISES.md"))
+}
+
+#[test]
+fn documents_name_what_exists() {
+    let names = names_of_the_tree();
+    let mut all_missing = BTreeSet::new();
+    for document in files(&root().join("docs")) {
+        let (missing, looked_at) = missing_names(&text(&document), &names);
+        let name = document.file_name().expect("a name").to_string_lossy();
+        println!("names in {name}: {looked_at}, missing {}", missing.len());
+        assert!(looked_at > 10, "{name} was not read");
+        all_missing.extend(missing);
+    }
+    assert!(all_missing.is_empty(), "not in the tree: {all_missing:#?}");
 }
 
 #[test]
 fn promises_name_every_wrong_answer() {
-    let promises = text(&root().join("docs/PROMISES.md"));
+    let promises = promises();
     let named: BTreeSet<&str> = quoted(&promises).into_iter().flat_map(words).collect();
-    let mut count = 0;
-    let mut missing = Vec::new();
-    for edit in edits() {
-        for label in labels(&edit) {
-            count += 1;
-            if !named.contains(label.as_str()) {
-                missing.push(format!("{} of {}", label, crate_of(&edit)));
-            }
-        }
-    }
+    let labels = all_labels();
+    let missing: Vec<&String> = labels.iter().filter(|label| !named.contains(label.as_str())).collect();
+    let count: usize = edits().iter().map(|edit| self::labels(edit).len()).sum();
     println!("wrong answers: {count} in {} edit files, not named {}", edits().len(), missing.len());
     assert!(missing.is_empty(), "not in PROMISES.md: {missing:#?}");
-    assert!(count > 100, "the edits were not read");
+}
+
+/// A row of PROMISES.md that begins with the function's name has two labels in its last column.
+#[test]
+fn every_public_function_has_two_wrong_answers() {
+    let promises = promises();
+    let labels = all_labels();
+    let rows: Vec<Vec<&str>> = promises
+        .lines()
+        .filter(|line| line.starts_with("| `"))
+        .map(|line| line.trim_matches('|').split(" | ").collect())
+        .collect();
+    let two_for = |function: &Function| {
+        rows.iter().any(|row| {
+            let named = quoted(row[0]).into_iter().flat_map(words).any(|word| word == function.name);
+            let last = quoted(row[row.len() - 1]).into_iter().flat_map(words);
+            named && last.filter(|word| labels.contains(*word)).count() >= 2
+        })
+    };
+    let public: Vec<Function> = all_functions().into_iter().filter(|f| f.public).collect();
+    let missing: Vec<String> = public
+        .iter()
+        .filter(|function| !two_for(function))
+        .map(|function| format!("{} of {}", function.name, crate_of(&function.path)))
+        .collect();
+    println!("public functions: {}, without two wrong answers {}", public.len(), missing.len());
+    assert!(missing.is_empty(), "not in PROMISES.md: {missing:#?}");
 }
 
 #[test]
-fn promises_name_every_public_function() {
-    let promises = text(&root().join("docs/PROMISES.md"));
-    let named: BTreeSet<&str> = quoted(&promises).into_iter().flat_map(words).collect();
-    let mut count = 0;
-    let mut missing = Vec::new();
-    let sources = files(&root().join("crates"));
-    for path in sources.iter().filter(|path| has_extension(path, "rt")) {
-        for line in text(path).lines().map(str::trim) {
-            let after = line.strip_prefix("pub ").map(|rest| rest.trim_start_matches("extern \"C\" "));
-            let Some(function) = after.and_then(|rest| rest.strip_prefix("fn ")) else { continue };
-            let name = words(function).next().expect("a name");
-            count += 1;
-            if !named.contains(name) {
-                missing.push(format!("{name} of {}", crate_of(path)));
-            }
-        }
-    }
-    println!("public functions: {count}, not named {}", missing.len());
-    assert!(missing.is_empty(), "not in PROMISES.md: {missing:#?}");
-    assert!(count > 50, "the sources were not read");
+fn public_functions_require_nothing() {
+    let all = all_functions();
+    let requiring: Vec<&str> = all.iter().filter(|f| f.public && f.requires).map(|f| f.name.as_str()).collect();
+    let private = all.iter().filter(|f| !f.public && f.requires).count();
+    println!("functions: {}, private ones with a requires {private}", all.len());
+    assert!(requiring.is_empty(), "public with a requires: {requiring:?}");
+    assert!(private > 0, "no requires was seen at all");
+}
+
+#[test]
+fn functions_are_small() {
+    let all = all_functions();
+    let longest = all.iter().max_by_key(|f| f.lines).expect("functions");
+    println!("the longest function is {} with {} lines", longest.name, longest.lines);
+    assert!(longest.lines <= 40, "{} has {} lines", longest.name, longest.lines);
+    let loops: Vec<&str> = all.iter().filter(|f| f.loops > 1).map(|f| f.name.as_str()).collect();
+    assert!(loops.is_empty(), "more than one loop: {loops:?}");
+    assert!(all.iter().any(|f| f.loops == 1), "no loop was seen at all");
 }

@@ -129,10 +129,10 @@ pub extern "C" fn duskstall_registrar_close(table: &mut [u8], id: &[u8], answer:
     ensures { λ r. ⌜ Crosses r (now (table .exit)) (now (answer .exit)) (registrarCrossing (unpack16 (now (id .entry)) .ok) (λ t. registrarClose t (record { bytes = unpack16 (now (id .entry)) .bytes })) (now (table .entry)) (now (answer .entry))) ⌝ }
 {
     let t = unpack_table(table);
-    let i = unpack_16(id);
-    let fault = boundary_fault(t.ok, i.ok, REGISTRAR_ANSWER <= answer.len());
+    let named = unpack_16(id);
+    let fault = boundary_fault(t.ok, named.ok, REGISTRAR_ANSWER <= answer.len());
     if fault != 0 {
         return fault;
     }
-    registrar_answered(table, answer, close(t.table, id_from(i)))
+    registrar_answered(table, answer, close(t.table, id_from(named)))
 }

@@ -39,9 +39,9 @@ impl Nonce {
     pub fn same(self, other: Nonce) -> bool
         ensures { λ r. ⌜ r ≡ sameNonce self other ⌝ }
     {
-        let a = self.bytes;
-        let b = other.bytes;
-        same16(a, b)
+        let own = self.bytes;
+        let given = other.bytes;
+        same16(own, given)
     }
 }
 

@@ -21,14 +21,16 @@ pub(crate) fn is_free(s: TransactionState) -> bool
 pub(crate) fn is_asked(s: TransactionState) -> bool
     ensures { λ r. ⌜ r ≡ isAsked s ⌝ }
 {
+    let beyond = false;
+    let asked = true;
     match s {
-        TransactionState::Free => false,
-        TransactionState::Asked => true,
-        TransactionState::Granted => false,
-        TransactionState::Confirmed => false,
-        TransactionState::Declined => false,
-        TransactionState::Refused => false,
-        TransactionState::Lapsed => false,
+        TransactionState::Free => beyond,
+        TransactionState::Asked => asked,
+        TransactionState::Granted => beyond,
+        TransactionState::Confirmed => beyond,
+        TransactionState::Declined => beyond,
+        TransactionState::Refused => beyond,
+        TransactionState::Lapsed => beyond,
     }
 }
 
