@@ -1,6 +1,6 @@
 //! The parts of CMP messages, put together to whole messages.
 
-use super::der::{hex, Node};
+use super::der::Node;
 
 /// How many optional fields a header has.
 pub const OPTIONAL_FIELDS: u8 = 9;
@@ -17,40 +17,6 @@ pub const KIND_NAMES: [&str; LAST_KIND as usize + 1] = [
 
 /// The kinds that are a SEQUENCE of entries.
 pub const KINDS_WITH_ENTRIES: [u8; 7] = [0, 1, 2, 3, 7, 8, 24];
-
-/// The sample message of "One message byte for byte", W, written out from its
-/// bytes there.
-pub fn sample() -> Vec<u8> {
-    let repeat = |byte: &str, times: usize| byte.repeat(times);
-    hex(&[
-        "30 81 89",
-        "30 56 02 01 02 A4 02 30 00 A4 02 30 00",
-        "A1 0D 30 0B 06 09 2A 86 48 86 F6 7D 07 42 0D",
-        "A4 12 04 10",
-        &repeat("11", 16),
-        "A5 12 04 10",
-        &repeat("22", 16),
-        "A6 12 04 10",
-        &repeat("33", 16),
-        "B8 29 30 27 30 25 04 20",
-        &repeat("AB", 32),
-        "02 01 00",
-        "A0 04 03 02 00 5A",
-    ]
-    .concat())
-}
-
-/// The dozen elements of "The dozen at the definitions": five sound ones, then
-/// seven that are not.
-pub fn dozen() -> ([Vec<u8>; 5], [Vec<u8>; 7]) {
-    (
-        ["0201FF", "02020080", "030100", "03020780", "0500"].map(hex),
-        [
-            "0202007F", "030101", "030207C0", "010101", "060180", "30817F", "3080",
-        ]
-        .map(hex),
-    )
-}
 
 /// A PKIMessage of these parts.
 pub fn message(header: Node, body: Node, rest: Vec<Node>) -> Node {

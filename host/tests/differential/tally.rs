@@ -3,6 +3,7 @@
 use duskstall_host::testing::der::show;
 use duskstall_host::testing::messages::LAST_KIND;
 use duskstall_host::{compiled, independent, Reading, Refused};
+use std::fmt::Debug;
 
 /// How many messages were compared and what both readers said of them.
 #[derive(Default)]
@@ -22,13 +23,7 @@ impl Tally {
     /// Compares both readers on a message, and both checks on its bytes as a
     /// run of elements. Gives the answer they agree on.
     pub fn message(&mut self, message: &[u8]) -> Result<Reading, Refused> {
-        let answer = independent::read(message);
-        let compiled = compiled::read(message);
-        assert!(
-            answer == compiled,
-            "the readers differ on {}\nindependent {answer:?}\ncompiled    {compiled:?}",
-            show(message),
-        );
+        let answer = same(independent::read(message), compiled::read(message), message);
         match answer {
             Ok(reading) => self.accepted[usize::from(reading.kind)] += 1,
             Err(Refused { number: 1, .. }) => self.refused_by_size += 1,
@@ -40,12 +35,10 @@ impl Tally {
 
     /// Compares both checks on a run of elements.
     pub fn run(&mut self, bytes: &[u8]) -> Option<(usize, u8)> {
-        let answer = independent::check_elements(bytes);
-        let compiled = compiled::check_elements(bytes);
-        assert!(
-            answer == compiled,
-            "the checks differ on {}\nindependent {answer:?}\ncompiled    {compiled:?}",
-            show(bytes),
+        let answer = same(
+            independent::check_elements(bytes),
+            compiled::check_elements(bytes),
+            bytes,
         );
         match answer {
             None => self.sound_runs += 1,
@@ -93,4 +86,14 @@ impl Tally {
             self.sound_runs, self.unsound_runs
         );
     }
+}
+
+/// The answer of both, which may not differ.
+fn same<Answer: PartialEq + Debug>(independent: Answer, compiled: Answer, bytes: &[u8]) -> Answer {
+    assert!(
+        independent == compiled,
+        "they differ on {}\nindependent {independent:?}\ncompiled    {compiled:?}",
+        show(bytes),
+    );
+    independent
 }
