@@ -26,6 +26,21 @@ fn confirming<E: Ends>(accept: bool) -> (Scene<E>, Parts, Parts) {
     (scene, request, cert_conf)
 }
 
+/// Board 0 has asked with id X1, and its request.
+fn asked<E: Ends>() -> (Scene<E>, Parts) {
+    let mut scene = Scene::new();
+    let request = scene.start(id(1));
+    scene.opens(&request, 0, 0);
+    (scene, request)
+}
+
+/// The same with the response on the line, too.
+fn granted<E: Ends>() -> (Scene<E>, Parts, Parts) {
+    let (mut scene, request) = asked();
+    let response = scene.issue(id(1), hash(1));
+    (scene, request, response)
+}
+
 /// List 1: One board's confirmation must not settle its neighbour's transaction.
 fn neighbours_confirmation<E: Ends>() {
     let mut scene = Scene::<E>::new();
@@ -82,9 +97,7 @@ fn changed_copies<E: Ends>() {
 
 /// List 4: A repeated request fails the board, and nothing is ever confirmed.
 fn repeated_opening<E: Ends>() {
-    let mut scene = Scene::<E>::new();
-    let request = scene.start(id(1));
-    scene.opens(&request, 0, 0);
+    let (mut scene, request) = asked::<E>();
     let error = scene.refuses(&request, good(0), 10, 21);
     scene.board_takes(0, &error, EnrolmentState::Failed);
     let response = scene.issue(id(1), hash(1));
@@ -111,7 +124,7 @@ fn opening_after_closing<E: Ends>() {
     }
     let second = scene.issue(id(1), hash(2));
     scene.refuses(&cert_conf, good(1), 14, 13);
-    scene.board_refuses_nonce(1, &second);
+    scene.board_refuses(1, &second, 14);
     scene.board_says(1, EnrolmentState::Sure);
     scene.registrar_says(id(1), TransactionState::Granted);
 }
@@ -129,10 +142,7 @@ fn reflected_error<E: Ends>() {
 
 /// List 7: The board has hashed another certificate than was issued.
 fn another_certificate<E: Ends>() {
-    let mut scene = Scene::<E>::new();
-    let request = scene.start(id(1));
-    scene.opens(&request, 0, 0);
-    let response = scene.issue(id(1), hash(1));
+    let (mut scene, _, response) = granted::<E>();
     let cert_conf = scene.decide(0, &response, true, hash(2));
     let error = scene.refuses(&cert_conf, good(0), 19, 4);
     scene.registrar_says(id(1), TransactionState::Granted);
@@ -190,10 +200,7 @@ fn full_table<E: Ends>() {
 
 /// After a time out at Asked nothing is taken any more.
 fn time_out_at_asked<E: Ends>() {
-    let mut scene = Scene::<E>::new();
-    let request = scene.start(id(1));
-    scene.opens(&request, 0, 0);
-    let response = scene.issue(id(1), hash(1));
+    let (mut scene, request, response) = granted::<E>();
     let error = scene.refuses(&request, good(0), 10, 21);
     scene.time_out(0, EnrolmentState::Failed);
     scene.board_refuses(0, &response, 20);
@@ -212,10 +219,7 @@ fn second_pkiconf_first<E: Ends>() {
 
 /// A cp is no answer to an ir, even with the right id and nonce.
 fn response_to_another_kind<E: Ends>() {
-    let mut scene = Scene::<E>::new();
-    let request = scene.start(id(1));
-    scene.opens(&request, 0, 0);
-    let response = scene.issue(id(1), hash(1));
+    let (mut scene, _, response) = granted::<E>();
     let other = changed(&response, |parts| parts.kind = 3);
     scene.board_refuses(0, &other, 8);
     scene.decide(0, &response, true, hash(1));
@@ -223,9 +227,7 @@ fn response_to_another_kind<E: Ends>() {
 
 /// A refused transaction has no hash, so 32 zeros do not name it.
 fn cert_conf_at_refused<E: Ends>() {
-    let mut scene = Scene::<E>::new();
-    let request = scene.start(id(1));
-    scene.opens(&request, 0, 0);
+    let (mut scene, request) = asked::<E>();
     let refusing = scene.refuse(id(1));
     let cert_conf = changed(&request, |parts| {
         parts.kind = 24;

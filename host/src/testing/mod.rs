@@ -1,8 +1,9 @@
 //! What the tests make their messages with: a small DER writer that can also
 //! write badly on purpose, the parts of CMP messages, the papers' examples,
 //! messages drawn at random, those of an exchange and another implementation's;
-//! and one name for the ends of the library and of the model.
+//! and the answers of both ends, with one name for the library's and the model's.
 
+pub mod answers;
 pub mod chains;
 pub mod corpus;
 pub mod der;

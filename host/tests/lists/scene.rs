@@ -2,8 +2,9 @@
 //! asserts the whole answer and the state after it; what it returns is the
 //! message that was sent, for the line to do as it likes with.
 
-use super::expected::{
-    board_done, board_refused, id_in, nonce_in, plain, registrar_done, registrar_refused, response,
+use super::expected::{id_in, nonce_in, response};
+use duskstall_host::testing::answers::{
+    board_done, board_refused, error, plain, registrar_done, registrar_refused,
 };
 use duskstall_host::testing::ends::{EndEntityEnd, Ends, RegistrarEnd};
 use duskstall_host::testing::exchange::Parts;
@@ -121,15 +122,8 @@ impl<E: Ends> Scene<E> {
     pub fn board_refuses(&mut self, board: usize, message: &Parts, number: u8) {
         let before = self.boards[board].clone();
         let answer = self.hand(board, message);
-        assert_eq!(answer, board_refused(number, Some(2)));
-        assert!(self.boards[board] == before);
-    }
-
-    /// As [`Scene::board_refuses`], for number 14.
-    pub fn board_refuses_nonce(&mut self, board: usize, message: &Parts) {
-        let before = self.boards[board].clone();
-        let answer = self.hand(board, message);
-        assert_eq!(answer, board_refused(14, Some(13)));
+        let bit = if number == 14 { 13 } else { 2 };
+        assert_eq!(answer, board_refused(number, Some(bit)));
         assert!(self.boards[board] == before);
     }
 
@@ -227,36 +221,34 @@ impl<E: Ends> Scene<E> {
 
     /// A certConf moves its transaction, and the pkiconf goes out.
     pub fn settles(&mut self, cert_conf: &Parts, board: usize, state: TransactionState) -> Parts {
+        let pkiconf = self.acknowledges(cert_conf, board, Outcome::Done);
         let id = id_in(cert_conf);
-        let (slot, _) = self.registrar.find(id).expect("it was opened");
-        let nonce = self.draw();
-        let answer = self
-            .registrar
-            .message(&cert_conf.encode(), good(board), nonce);
-        let sent = plain(19, id, nonce, nonce_in(&cert_conf.sender_nonce));
-        assert_eq!(answer, registrar_done(slot.0, Some(sent)));
         let (_, after) = self.registrar.find(id).expect("it is there");
         assert_eq!(after.taken, nonce_in(&cert_conf.sender_nonce));
         self.registrar_says(id, state);
-        Parts::of(&sent)
+        pkiconf
     }
 
     /// A certConf is answered again, and the table stays.
     pub fn again(&mut self, cert_conf: &Parts, board: usize) -> Parts {
         let before = self.registrar.clone();
+        let pkiconf = self.acknowledges(cert_conf, board, Outcome::Again);
+        assert!(self.registrar == before);
+        pkiconf
+    }
+
+    fn acknowledges(&mut self, cert_conf: &Parts, board: usize, outcome: Outcome) -> Parts {
         let id = id_in(cert_conf);
         let (slot, _) = self.registrar.find(id).expect("it was opened");
         let nonce = self.draw();
-        let answer = self
-            .registrar
-            .message(&cert_conf.encode(), good(board), nonce);
+        let bytes = cert_conf.encode();
+        let answer = self.registrar.message(&bytes, good(board), nonce);
         let sent = plain(19, id, nonce, nonce_in(&cert_conf.sender_nonce));
         let expected = RegistrarAnswer {
-            outcome: Outcome::Again,
+            outcome,
             ..registrar_done(slot.0, Some(sent))
         };
         assert_eq!(answer, expected);
-        assert!(self.registrar == before);
         Parts::of(&sent)
     }
 
@@ -265,11 +257,8 @@ impl<E: Ends> Scene<E> {
         let before = self.registrar.clone();
         let nonce = self.draw();
         let answer = self.registrar.message(&message.encode(), verdict, nonce);
-        let sent = Outgoing {
-            status: Some(2),
-            failure: Some(bit),
-            ..plain(23, id_in(message), nonce, nonce_in(&message.sender_nonce))
-        };
+        let answered = nonce_in(&message.sender_nonce);
+        let sent = error(id_in(message), nonce, answered, bit);
         assert_eq!(answer, registrar_refused(number, Some(bit), Some(sent)));
         assert!(self.registrar == before);
         Parts::of(&sent)
