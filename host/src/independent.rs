@@ -11,8 +11,11 @@
 //! end is shown at that end, where another element may begin and be at fault
 //! itself.
 
+mod bodies;
 mod der;
 mod grammar;
+mod rules;
+mod steps;
 #[cfg(test)]
 mod tests;
 
