@@ -12,3 +12,4 @@ pub mod exchange;
 pub mod messages;
 pub mod papers;
 pub mod random;
+pub mod sha256;
