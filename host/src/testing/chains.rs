@@ -61,8 +61,28 @@ fn chain(size: usize) -> Vec<Node> {
 /// An ip of at most `size` bytes with every header field, one certificate and
 /// as long a chain in extraCerts as there is room for.
 pub fn chain_message(size: usize) -> Vec<u8> {
+    ip_with(certificates().pop(), |room| {
+        chain(size.saturating_sub(room))
+    })
+}
+
+/// The same with one certificate over and over, so that messages of all sizes
+/// are made of the same elements, as near to `size` as whole certificates come.
+pub fn even_message(size: usize) -> Vec<u8> {
+    let certificate = certificates().pop();
+    ip_with(certificate.clone(), |frame| {
+        certificate.map_or(Vec::new(), |certificate| {
+            let one = certificate.encoded_len();
+            vec![certificate; (size.saturating_sub(frame) + one / 2) / one]
+        })
+    })
+}
+
+/// An ip with this certificate, and in extraCerts those that `extra` gives when
+/// it is told how many bytes the rest of the message has.
+fn ip_with(certificate: Option<Node>, extra: impl FnOnce(usize) -> Vec<Node>) -> Vec<u8> {
     let mut pair = key_pair(0, false);
-    if let (Some(wrapper), Some(certificate)) = (pair.children_mut(), certificates().pop()) {
+    if let (Some(wrapper), Some(certificate)) = (pair.children_mut(), certificate) {
         wrapper[0] = Node::explicit(0, certificate);
     }
     let response = Node::sequence(vec![Node::integer(0), status_info(0, false), pair]);
@@ -73,7 +93,7 @@ pub fn chain_message(size: usize) -> Vec<u8> {
     };
     // Without the chain, and with the longest length forms around it.
     let frame = build(Vec::new()).len() + 6;
-    build(chain(size.saturating_sub(frame)))
+    build(extra(frame))
 }
 
 /// A run of at most `size` bytes of certificates.
