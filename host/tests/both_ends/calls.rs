@@ -107,14 +107,18 @@ pub enum EndEntityCall {
         id: Vec<u8>,
         nonce: Vec<u8>,
     },
-    Message {
-        message: Vec<u8>,
-        good: u8,
-        accept: u8,
-        hash: Vec<u8>,
-        nonce: Vec<u8>,
-    },
+    Message(EndEntityMessage),
     TimeOut,
+}
+
+/// A message at an end entity and what its host hands in with it.
+#[derive(Clone, Debug)]
+pub struct EndEntityMessage {
+    pub message: Vec<u8>,
+    pub good: u8,
+    pub accept: u8,
+    pub hash: Vec<u8>,
+    pub nonce: Vec<u8>,
 }
 
 impl Call for EndEntityCall {
@@ -122,13 +126,15 @@ impl Call for EndEntityCall {
         use EndEntityCall::*;
         match self {
             Start { kind, id, nonce } => library::end_entity_start(state, *kind, id, nonce, answer),
-            Message {
-                message,
-                good,
-                accept,
-                hash,
-                nonce,
-            } => library::end_entity_message(state, message, *good, *accept, hash, nonce, answer),
+            Message(given) => library::end_entity_message(
+                state,
+                &given.message,
+                given.good,
+                given.accept,
+                &given.hash,
+                &given.nonce,
+                answer,
+            ),
             TimeOut => library::end_entity_time_out(state, answer),
         }
     }
@@ -137,18 +143,10 @@ impl Call for EndEntityCall {
         use EndEntityCall::*;
         match self {
             Start { kind, id, nonce } => start(*kind, id, nonce, state, answer),
-            Message {
-                message,
-                good,
-                accept,
-                hash,
-                nonce,
-            } => step(state, answer, |model| {
-                let decision = Decision {
-                    accept: *accept != 0,
-                    hash: to_hash(hash)?,
-                };
-                Some(model.message(message, *good != 0, decision, to_nonce(nonce)?))
+            Message(given) => step(state, answer, |model| {
+                let (good, accept) = (given.good != 0, given.accept != 0);
+                let (hash, nonce) = (to_hash(&given.hash)?, to_nonce(&given.nonce)?);
+                Some(model.message(&given.message, good, Decision { accept, hash }, nonce))
             }),
             TimeOut => step(state, answer, |model| Some(model.time_out())),
         }

@@ -1,7 +1,7 @@
 //! States and calls drawn at random. Messages are made to fit the state they go
 //! to before something in them is changed.
 
-use super::calls::{EndEntityCall, RegistrarCall};
+use super::calls::{EndEntityCall, EndEntityMessage, RegistrarCall};
 use super::change::{changed, damaged};
 use super::pool::Pool;
 use duskstall_host::testing::exchange::{Certificate, Parts};
@@ -146,7 +146,7 @@ pub fn end_entity_call(random: &mut Random, pool: &Pool, enrolment: &[u8]) -> En
             id: lent(&pool.id(random).0, random),
             nonce,
         },
-        _ => EndEntityCall::Message {
+        _ => EndEntityCall::Message(EndEntityMessage {
             message: message_to_end_entity(random, pool, enrolment),
             good: verdict(random),
             accept: if random.once_in(2) {
@@ -156,7 +156,7 @@ pub fn end_entity_call(random: &mut Random, pool: &Pool, enrolment: &[u8]) -> En
             },
             hash: lent(&pool.hash(random).0, random),
             nonce,
-        },
+        }),
     }
 }
 

@@ -153,52 +153,58 @@ fn inner_elements_of_critical_sizes() {
 fn messages_with(size: usize, form: LengthForm) -> Vec<Node> {
     let sized = |tag: u8, byte: u8| Node::primitive(tag, &vec![byte; size]).with_length(form);
     let run = Node::primitive(0x30, &run_of_size(size)).with_length(form);
-    let with_header = |field: Node| {
-        let header = Node::sequence(vec![Node::integer(2), name(), name(), field]);
-        message(header, body(19, 0, false), vec![])
+    let mut messages = in_headers(&sized, &run);
+    messages.extend(in_bodies(&sized, &run));
+    messages.extend(
+        [
+            Node::explicit(0, sized(0x03, 0x00)),
+            Node::explicit(1, Node::sequence(vec![run.clone(), run])),
+        ]
+        .map(|rest| message(header(0), body(19, 0, false), vec![rest])),
+    );
+    messages
+}
+
+/// An element of the size asked for, of this tag and filled with this byte.
+type Sized<'a> = &'a dyn Fn(u8, u8) -> Node;
+
+fn in_headers(sized: Sized, run: &Node) -> Vec<Node> {
+    let with = |sender: Node, recipient: Node, fields: Vec<Node>| {
+        let mut parts = vec![Node::integer(2), sender, recipient];
+        parts.extend(fields);
+        message(Node::sequence(parts), body(19, 0, false), vec![])
     };
-    let with_body = |kind: u8, inside: Node| bare(Node::explicit(kind, inside));
+    let info = Node::sequence(vec![Node::oid(&[0x2A]), run.clone()]);
+    let fields = [
+        (0, sized(0x18, b'0')),
+        (1, Node::sequence(vec![sized(0x06, 0x2A)])),
+        (4, sized(0x04, 0x11)),
+        (7, Node::sequence(vec![sized(0x0C, b'z')])),
+        (8, Node::sequence(vec![info])),
+    ];
+    let mut messages = vec![with(sized(0x82, b'x'), sized(0x86, b'y'), vec![])];
+    messages.extend(
+        fields.map(|(number, inside)| with(name(), name(), vec![Node::explicit(number, inside)])),
+    );
+    messages
+}
+
+fn in_bodies(sized: Sized, run: &Node) -> Vec<Node> {
     let pair = Node::sequence(vec![Node::explicit(0, run.clone())]);
     let response = vec![Node::integer(0), status_info(0, false), pair];
-    vec![
-        message(
-            Node::sequence(vec![Node::integer(2), sized(0x82, b'x'), sized(0x86, b'y')]),
-            body(19, 0, false),
-            vec![],
-        ),
-        with_header(Node::explicit(0, sized(0x18, b'0'))),
-        with_header(Node::explicit(1, Node::sequence(vec![sized(0x06, 0x2A)]))),
-        with_header(Node::explicit(4, sized(0x04, 0x11))),
-        with_header(Node::explicit(7, Node::sequence(vec![sized(0x0C, b'z')]))),
-        with_header(Node::explicit(
-            8,
-            Node::sequence(vec![Node::sequence(vec![Node::oid(&[0x2A]), run.clone()])]),
-        )),
-        with_body(5, sized(0x04, 0xEE)),
-        with_body(4, run.clone()),
-        with_body(1, responses(false, vec![Node::sequence(response)])),
-        with_body(
+    let status = Node::sequence(vec![sized(0x04, 0xAB), Node::integer(0)]);
+    [
+        (5, sized(0x04, 0xEE)),
+        (4, run.clone()),
+        (1, responses(false, vec![Node::sequence(response)])),
+        (
             23,
             Node::sequence(vec![status_info(2, false), sized(0x02, 0x01)]),
         ),
-        with_body(
-            24,
-            Node::sequence(vec![Node::sequence(vec![
-                sized(0x04, 0xAB),
-                Node::integer(0),
-            ])]),
-        ),
-        message(
-            header(0),
-            body(19, 0, false),
-            vec![Node::explicit(0, sized(0x03, 0x00))],
-        ),
-        message(
-            header(0),
-            body(19, 0, false),
-            vec![Node::explicit(1, Node::sequence(vec![run.clone(), run]))],
-        ),
+        (24, Node::sequence(vec![status])),
     ]
+    .map(|(kind, inside)| bare(Node::explicit(kind, inside)))
+    .into()
 }
 
 /// Sound elements of exactly so many bytes altogether, if that is possible.

@@ -6,43 +6,35 @@ use std::time::Instant;
 /// Rounds of each comparison.
 pub const ROUNDS: usize = 1_001;
 
-/// A call, and how often it is made in a batch.
-pub struct Timed<'a> {
-    pub calls: usize,
-    pub call: &'a mut dyn FnMut(),
-}
+/// A call, with how often it is made in a batch.
+pub type Timed<'a> = (usize, &'a mut dyn FnMut());
 
 /// The time of one call of each, in nanoseconds: the medians over all rounds.
-pub fn medians(mut timed: Vec<Timed>) -> Vec<f64> {
+pub fn medians_of(mut timed: Vec<Timed>) -> Vec<f64> {
     let mut times = vec![Vec::new(); timed.len()];
     for round in 0..ROUNDS {
         for turn in 0..timed.len() {
             let next = (round + turn) % timed.len();
-            times[next].push(batch(&mut timed[next]));
+            let (calls, call) = &mut timed[next];
+            times[next].push(batch(*calls, call));
         }
     }
     times.into_iter().map(median).collect()
 }
 
-/// The medians of two that are called equally often.
-pub fn medians_of_two<'a>(
-    calls: usize,
-    first: &'a mut dyn FnMut(),
-    second: &'a mut dyn FnMut(),
-) -> [f64; 2] {
-    let timed = [first, second].map(|call| Timed { calls, call });
-    match medians(timed.into())[..] {
-        [first, second] => [first, second],
-        _ => unreachable!("there are two"),
-    }
+/// The same where all are called equally often.
+pub fn medians<const COUNT: usize>(calls: usize, timed: [&mut dyn FnMut(); COUNT]) -> [f64; COUNT] {
+    let times = medians_of(timed.map(|call| (calls, call)).into());
+    std::array::from_fn(|number| times[number])
 }
 
-fn batch(timed: &mut Timed) -> f64 {
+/// The time of one call in a batch.
+fn batch(calls: usize, call: &mut dyn FnMut()) -> f64 {
     let started = Instant::now();
-    for _ in 0..timed.calls {
-        (timed.call)();
+    for _ in 0..calls {
+        call();
     }
-    started.elapsed().as_nanos() as f64 / timed.calls as f64
+    started.elapsed().as_nanos() as f64 / calls as f64
 }
 
 fn median(mut times: Vec<f64>) -> f64 {

@@ -1,6 +1,6 @@
 //! Reading: both readers, with every field, and the check of elements alone.
 
-use crate::measure::{line, medians, medians_of_two, Timed};
+use crate::measure::{line, medians, medians_of};
 use duskstall_host::testing::chains::{chain_message, chain_run, even_message};
 use duskstall_host::{compiled, independent, Reading, Refused};
 use std::hint::black_box;
@@ -40,7 +40,7 @@ pub fn runs() {
         let mut rust = || {
             black_box(rust_check(black_box(&run)));
         };
-        let times = medians_of_two(BATCH / run.len(), &mut proved, &mut rust);
+        let times = medians(BATCH / run.len(), [&mut proved, &mut rust]);
         print_both("check", run.len(), times);
     }
 }
@@ -48,23 +48,22 @@ pub fn runs() {
 /// The cost of reading against the length, all lengths in the same rounds.
 pub fn lengths() {
     let messages = LENGTHS.map(even_message);
-    let mut calls: Vec<(usize, Box<dyn FnMut() + '_>)> = Vec::new();
+    let mut calls: Vec<Box<dyn FnMut()>> = Vec::new();
     for message in &messages {
         check_same(message);
-        calls.push((message.len(), Box::new(proved_reading(message))));
-        calls.push((message.len(), Box::new(rust_reading(message))));
+        calls.push(Box::new(proved_reading(message)));
+        calls.push(Box::new(rust_reading(message)));
     }
-    let timed = calls.iter_mut().map(|(bytes, call)| Timed {
-        calls: BATCH / *bytes,
-        call,
-    });
-    let times = medians(timed.collect());
+    let batches = messages
+        .iter()
+        .flat_map(|message| [BATCH / message.len(); 2]);
+    let timed = batches.zip(calls.iter_mut().map(|call| call as &mut dyn FnMut()));
+    let times = medians_of(timed.collect());
     let [mut proved, mut rust] = [Vec::new(), Vec::new()];
     for (message, times) in messages.iter().zip(times.chunks(2)) {
-        let bytes = message.len() as f64;
         print_both("length", message.len(), [times[0], times[1]]);
-        proved.push((bytes, times[0]));
-        rust.push((bytes, times[1]));
+        proved.push((message.len() as f64, times[0]));
+        rust.push((message.len() as f64, times[1]));
     }
     print_line("proved", &proved);
     print_line("Rust", &rust);
@@ -85,9 +84,11 @@ fn print_line(name: &str, points: &[(f64, f64)]) {
 /// Both readers on one message that both take.
 fn compare_reading(name: &str, message: &[u8]) {
     check_same(message);
-    let [proved, rust]: [&mut dyn FnMut(); 2] =
-        [&mut proved_reading(message), &mut rust_reading(message)];
-    let times = medians_of_two(BATCH / message.len(), proved, rust);
+    let calls = BATCH / message.len();
+    let times = medians(
+        calls,
+        [&mut proved_reading(message), &mut rust_reading(message)],
+    );
     print_both(name, message.len(), times);
 }
 

@@ -2,7 +2,7 @@
 //! reading of the step's message alone. Each step is on a new copy of the
 //! state, so the copy is timed too.
 
-use crate::measure::medians_of_two;
+use crate::measure::medians;
 use crate::reading::proved_reading;
 use duskstall_host::library;
 use duskstall_host::testing::chains::chain_message;
@@ -25,70 +25,84 @@ const DONE: u64 = 0;
 const AGAIN: u64 = 1;
 const REFUSED: u64 = 2;
 
-/// The steps of one transaction, once alone in the table and once as the last
-/// of a full one; and those that an empty and a full table refuse.
-pub fn at_registrar() {
-    for (name, others) in [("idle", 0), ("full", SLOTS - 1)] {
-        let (end_entity, request) = started(ID);
-        let request = encoded(request);
-        let mut registrar = with_transactions(others);
-        message_step(
-            &format!("request, {name} table"),
-            &registrar,
-            &request,
-            DONE,
-        );
-        registrar.message(&request, GOOD, NONCE);
-        issue_step(&format!("issue, {name} table"), &registrar);
-        let response = registrar.issue(ID, NONCE, HASH).outgoing;
-        let cert_conf = response.and_then(|response| confirm(end_entity, &encoded(response)));
-        let cert_conf = cert_conf.map(encoded).expect("the board confirms");
-        message_step(
-            &format!("certConf, {name} table"),
-            &registrar,
-            &cert_conf,
-            DONE,
-        );
-        registrar.message(&cert_conf, GOOD, NONCE);
-        message_step(
-            &format!("certConf again, {name} table"),
-            &registrar,
-            &cert_conf,
-            AGAIN,
-        );
-        if others == 0 {
-            let empty = Registrar::new();
-            message_step(
-                "certConf refused by 12, empty table",
-                &empty,
-                &cert_conf,
-                REFUSED,
-            );
-        }
+const ACCEPT: Decision = Decision {
+    accept: true,
+    hash: HASH,
+};
+
+/// The messages of an enrolment, the same whatever else is in the table.
+struct Messages {
+    request: Vec<u8>,
+    response: Vec<u8>,
+    cert_conf: Vec<u8>,
+    pkiconf: Vec<u8>,
+}
+
+fn enrol() -> Messages {
+    let encode = |sent: Option<Outgoing>| Parts::of(&sent.expect("it is sent")).encode();
+    let (mut end_entity, request) = started(ID);
+    let mut registrar = Registrar::new();
+    let request = encode(Some(request));
+    registrar.message(&request, GOOD, NONCE);
+    let response = encode(registrar.issue(ID, NONCE, HASH).outgoing);
+    let cert_conf = encode(end_entity.message(&response, true, ACCEPT, NONCE).outgoing);
+    let pkiconf = encode(registrar.message(&cert_conf, GOOD, NONCE).outgoing);
+    Messages {
+        request,
+        response,
+        cert_conf,
+        pkiconf,
     }
-    let (_, request) = started(ID);
-    let full = with_transactions(SLOTS);
-    message_step(
-        "request refused by 11, full table",
-        &full,
-        &encoded(request),
-        REFUSED,
-    );
+}
+
+fn started(id: TransactionId) -> (EndEntity, Outgoing) {
+    EndEntity::start(0, id, NONCE).expect("an ir can be started")
+}
+
+/// A registrar that has taken so many other requests.
+fn with_others(count: usize) -> Registrar {
+    let mut registrar = Registrar::new();
+    for number in 0..count as u8 {
+        let (_, request) = started(TransactionId([number; 16]));
+        registrar.message(&Parts::of(&request).encode(), GOOD, NONCE);
+    }
+    assert_eq!(registrar.transactions().count(), count);
+    registrar
+}
+
+/// Each step on an idle table and on a full one: of a transaction that is alone
+/// in it or the last of all, and of one that is not there.
+pub fn at_registrar() {
+    let Messages {
+        request, cert_conf, ..
+    } = enrol();
+    let mut tables = [0, SLOTS - 1].map(with_others);
+    message_step("request", &tables, &request, DONE);
+    for table in &mut tables {
+        table.message(&request, GOOD, NONCE);
+    }
+    issue_step(&tables);
+    for table in &mut tables {
+        table.issue(ID, NONCE, HASH);
+    }
+    message_step("certConf", &tables, &cert_conf, DONE);
+    for table in &mut tables {
+        table.message(&cert_conf, GOOD, NONCE);
+    }
+    message_step("certConf again", &tables, &cert_conf, AGAIN);
+    let unknown = [0, SLOTS].map(with_others);
+    message_step("certConf refused", &unknown, &cert_conf, REFUSED);
 }
 
 /// A response with a certificate, which a certConf answers, short and long; and
 /// the pkiConf that ends it.
 pub fn at_end_entity() {
-    let (mut end_entity, request) = started(ID);
-    let mut registrar = with_transactions(0);
-    registrar.message(&encoded(request), GOOD, NONCE);
-    let response = registrar.issue(ID, NONCE, HASH).outgoing;
-    let response = response.map(encoded).expect("the registrar responds");
+    let Messages {
+        response, pkiconf, ..
+    } = enrol();
+    let (mut end_entity, _) = started(ID);
     board_step("ip at an end entity", &end_entity, &response);
-    let cert_conf = end_entity.message(&response, true, ACCEPT, NONCE).outgoing;
-    let cert_conf = cert_conf.map(encoded).expect("the board confirms");
-    let pkiconf = registrar.message(&cert_conf, GOOD, NONCE).outgoing;
-    let pkiconf = pkiconf.map(encoded).expect("the registrar acknowledges");
+    end_entity.message(&response, true, ACCEPT, NONCE);
     board_step("pkiConf at an end entity", &end_entity, &pkiconf);
 
     // The id and the recipNonce in its header.
@@ -97,46 +111,56 @@ pub fn at_end_entity() {
     board_step("ip at an end entity", &end_entity, &chain_message(16_384));
 }
 
-/// A registrar that has taken so many requests.
-fn with_transactions(count: usize) -> Registrar {
-    let mut registrar = Registrar::new();
-    for number in 0..count as u8 {
-        let (_, request) = started(TransactionId([number; 16]));
-        registrar.message(&encoded(request), GOOD, NONCE);
-    }
-    assert_eq!(registrar.transactions().count(), count);
-    registrar
-}
-
-fn started(id: TransactionId) -> (EndEntity, Outgoing) {
-    EndEntity::start(0, id, NONCE).expect("an ir can be started")
-}
-
-const ACCEPT: Decision = Decision {
-    accept: true,
-    hash: HASH,
-};
-
-fn confirm(mut end_entity: EndEntity, response: &[u8]) -> Option<Outgoing> {
-    end_entity.message(response, true, ACCEPT, NONCE).outgoing
-}
-
-fn encoded(outgoing: Outgoing) -> Vec<u8> {
-    Parts::of(&outgoing).encode()
-}
-
 /// A message at a registrar, which gives this number.
-fn message_step(name: &str, registrar: &Registrar, message: &[u8], number: u64) {
+fn message_step(name: &str, tables: &[Registrar; 2], message: &[u8], number: u64) {
+    let [mut idle, mut full] = tables.each_ref().map(|registrar| {
+        on_table(registrar, number, |table, answer| {
+            library::registrar_message(table, message, 1, 1, &NONCE.0, answer)
+        })
+    });
+    let times = medians(CALLS, [&mut idle, &mut full, &mut proved_reading(message)]);
+    let what = format!("{name}, {} bytes", message.len());
+    print_step(&what, times, "reading alone");
+}
+
+fn issue_step(tables: &[Registrar; 2]) {
+    let [mut idle, mut full] = tables.each_ref().map(|registrar| {
+        on_table(registrar, DONE, |table, answer| {
+            library::registrar_issue(table, &ID.0, &NONCE.0, &HASH.0, answer)
+        })
+    });
+    let table = tables[0].as_bytes();
+    let mut copy = || {
+        black_box(*black_box(table));
+    };
+    let times = medians(CALLS, [&mut idle, &mut full, &mut copy]);
+    print_step("issue", times, "the table's copy alone");
+}
+
+/// A call on a new copy of a table, once run to see that it gives this number.
+fn on_table<'a>(
+    registrar: &'a Registrar,
+    number: u64,
+    call: impl Fn(&mut [u8], &mut [u8]) -> u64 + 'a,
+) -> impl FnMut() + 'a {
     let mut answer = [0; REGISTRAR_ANSWER_BYTES];
-    let mut step = || {
+    let mut step = move || {
         let mut table = *black_box(registrar.as_bytes());
-        let given = library::registrar_message(&mut table, message, 1, 1, &NONCE.0, &mut answer);
+        let given = call(&mut table, &mut answer);
         black_box((given, table)).0
     };
     assert_eq!(step(), number);
-    compare_with_reading(name, message, &mut || {
+    move || {
         step();
-    });
+    }
+}
+
+fn print_step(what: &str, [idle, full, part]: [f64; 3], name: &str) {
+    println!(
+        "step {what}: idle table {idle:.1} ns, full table {full:.1} ns, ratio {:.2}; \
+         {name} {part:.1} ns",
+        full / idle,
+    );
 }
 
 /// A message at an end entity that takes it.
@@ -149,35 +173,12 @@ fn board_step(name: &str, end_entity: &EndEntity, message: &[u8]) {
         black_box((given, enrolment)).0
     };
     assert_eq!(step(), DONE);
-    compare_with_reading(name, message, &mut || {
-        step();
-    });
-}
-
-/// Times a step and the reading of its message, and prints one line.
-fn compare_with_reading(name: &str, message: &[u8], step: &mut dyn FnMut()) {
-    let [step, reading] = medians_of_two(CALLS, step, &mut proved_reading(message));
-    println!(
-        "step {name}, {} bytes: {step:.1} ns, reading alone {reading:.1} ns, ratio {:.2}",
-        message.len(),
-        step / reading,
-    );
-}
-
-fn issue_step(name: &str, registrar: &Registrar) {
-    let mut answer = [0; REGISTRAR_ANSWER_BYTES];
-    let mut step = || {
-        let mut table = *black_box(registrar.as_bytes());
-        let given = library::registrar_issue(&mut table, &ID.0, &NONCE.0, &HASH.0, &mut answer);
-        black_box((given, table)).0
-    };
-    assert_eq!(step(), DONE);
     let mut run = || {
         step();
     };
-    let mut copy = || {
-        black_box(*black_box(registrar.as_bytes()));
-    };
-    let [step, copy] = medians_of_two(CALLS, &mut run, &mut copy);
-    println!("step {name}: {step:.1} ns, of it the table's copy {copy:.1} ns");
+    let [step, reading] = medians(CALLS, [&mut run, &mut proved_reading(message)]);
+    println!(
+        "step {name}, {} bytes: {step:.1} ns; reading alone {reading:.1} ns",
+        message.len(),
+    );
 }
