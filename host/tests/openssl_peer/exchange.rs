@@ -1,7 +1,8 @@
 //! Messages of another implementation, with what the library reads in them.
 
 use duskstall_host::testing::sha256::sha256;
-use duskstall_host::{compiled, CertHash, Nonce, Outgoing, Reading, Span, TransactionId};
+use duskstall_host::{compiled, independent};
+use duskstall_host::{CertHash, Nonce, Outgoing, Reading, Span, TransactionId};
 
 /// A message and its reading by the library.
 pub struct Message {
@@ -10,8 +11,10 @@ pub struct Message {
 }
 
 impl Message {
+    /// Both readers have to take it, and to find the same in it.
     pub fn read(bytes: Vec<u8>) -> Message {
         let reading = compiled::read(&bytes).expect("the message reads clean");
+        assert_eq!(independent::read(&bytes), Ok(reading));
         Message { bytes, reading }
     }
 

@@ -3,6 +3,7 @@
 use std::env;
 use std::ffi::OsStr;
 use std::fs;
+use std::io::ErrorKind;
 use std::path::PathBuf;
 use std::process::{self, Command};
 use std::sync::atomic::{AtomicUsize, Ordering};
@@ -124,9 +125,14 @@ impl Drop for OpenSsl {
 
 /// A new folder that nobody else uses.
 fn fresh() -> PathBuf {
-    static MADE: AtomicUsize = AtomicUsize::new(0);
-    let number = MADE.fetch_add(1, Ordering::Relaxed);
-    let folder = env::temp_dir().join(format!("duskstall-openssl-{}-{number}", process::id()));
-    fs::create_dir(&folder).expect("the folder is new");
-    folder
+    static TRIED: AtomicUsize = AtomicUsize::new(0);
+    loop {
+        let number = TRIED.fetch_add(1, Ordering::Relaxed);
+        let name = format!("duskstall-openssl-{}-{number}", process::id());
+        let folder = env::temp_dir().join(name);
+        match fs::create_dir(&folder) {
+            Ok(()) => return folder,
+            Err(error) => assert_eq!(error.kind(), ErrorKind::AlreadyExists, "{error}"),
+        }
+    }
 }
