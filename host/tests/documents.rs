@@ -60,20 +60,27 @@ fn labels(edit: &Path) -> Vec<String> {
 }
 
 fn crate_of(path: &Path) -> String {
-    let inside = path.strip_prefix(root().join("crates")).expect("of a crate");
+    let inside = path
+        .strip_prefix(root().join("crates"))
+        .expect("of a crate");
     let first = inside.components().next().expect("a crate's folder");
     first.as_os_str().to_string_lossy().into_owned()
 }
 
 fn edits() -> Vec<PathBuf> {
     let crates = files(&root().join("crates"));
-    crates.into_iter().filter(|p| has_extension(p, "edit")).collect()
+    crates
+        .into_iter()
+        .filter(|p| has_extension(p, "edit"))
+        .collect()
 }
 
 /// What stands between backticks, but for blocks of code.
 fn quoted(document: &str) -> Vec<&str> {
     let prose = document.split("```").step_by(2);
-    prose.flat_map(|part| part.split('`').skip(1).step_by(2)).collect()
+    prose
+        .flat_map(|part| part.split('`').skip(1).step_by(2))
+        .collect()
 }
 
 /// Every name of the tree: words of definitions and code, what a proof file declares, labels, files.
@@ -81,17 +88,27 @@ fn names_of_the_tree() -> BTreeSet<String> {
     let mut names = BTreeSet::new();
     let folders = ["crates", "host", "include", "examples", "docs", ".ci"];
     for path in folders.iter().flat_map(|f| files(&root().join(f))) {
-        let inside = path.strip_prefix(root()).expect("of the tree").to_path_buf();
+        let inside = path
+            .strip_prefix(root())
+            .expect("of the tree")
+            .to_path_buf();
         names.extend(words(&inside.to_string_lossy()).map(String::from));
         let content = text(&path);
         if has_extension(&path, "edit") {
             names.extend(labels(&path));
         } else if inside.components().any(|part| part.as_os_str() == "proofs") {
             let declared = content.lines().filter(|line| line.contains(" : "));
-            names.extend(declared.flat_map(|line| words(line).take(3)).map(String::from));
+            names.extend(
+                declared
+                    .flat_map(|line| words(line).take(3))
+                    .map(String::from),
+            );
         } else if has_extension(&path, "rt") || has_extension(&path, "antt") {
             names.extend(words(&content).map(String::from));
-        } else if has_extension(&path, "rs") || has_extension(&path, "c") || has_extension(&path, "h") {
+        } else if has_extension(&path, "rs")
+            || has_extension(&path, "c")
+            || has_extension(&path, "h")
+        {
             names.extend(words(&content).map(String::from));
         }
     }
@@ -135,18 +152,29 @@ fn functions(path: &Path) -> Vec<Function> {
             .trim_start_matches("pub(crate) ")
             .trim_start_matches("pub ")
             .trim_start_matches("extern \"C\" ");
-        let Some(rest) = signature.strip_prefix("fn ") else { continue };
+        let Some(rest) = signature.strip_prefix("fn ") else {
+            continue;
+        };
         let opens = |l: &&str| l.trim() == "{" || (*l == *line && l.ends_with('{'));
         let body = at + lines[at..].iter().position(|l| opens(&l)).expect("a body");
         let closing = format!("{}}}", " ".repeat(indent));
-        let end = body + lines[body..].iter().position(|l| *l == closing).expect("its end");
+        let end = body
+            + lines[body..]
+                .iter()
+                .position(|l| *l == closing)
+                .expect("its end");
         found.push(Function {
             name: words(rest).next().expect("a name").to_string(),
             path: path.to_path_buf(),
             public: head.starts_with("pub ") && !head.contains("fn main("),
-            requires: lines[at..body].iter().any(|l| l.trim().starts_with("requires")),
+            requires: lines[at..body]
+                .iter()
+                .any(|l| l.trim().starts_with("requires")),
             lines: end - body - 1,
-            loops: lines[body..end].iter().filter(|l| l.trim().starts_with("while ")).count(),
+            loops: lines[body..end]
+                .iter()
+                .filter(|l| l.trim().starts_with("while "))
+                .count(),
         });
     }
     found
@@ -189,9 +217,16 @@ fn promises_name_every_wrong_answer() {
     let promises = promises();
     let named: BTreeSet<&str> = quoted(&promises).into_iter().flat_map(words).collect();
     let labels = all_labels();
-    let missing: Vec<&String> = labels.iter().filter(|label| !named.contains(label.as_str())).collect();
+    let missing: Vec<&String> = labels
+        .iter()
+        .filter(|label| !named.contains(label.as_str()))
+        .collect();
     let count: usize = edits().iter().map(|edit| self::labels(edit).len()).sum();
-    println!("wrong answers: {count} in {} edit files, not named {}", edits().len(), missing.len());
+    println!(
+        "wrong answers: {count} in {} edit files, not named {}",
+        edits().len(),
+        missing.len()
+    );
     assert!(missing.is_empty(), "not in PROMISES.md: {missing:#?}");
 }
 
@@ -207,7 +242,10 @@ fn every_public_function_has_two_wrong_answers() {
         .collect();
     let two_for = |function: &Function| {
         rows.iter().any(|row| {
-            let named = quoted(row[0]).into_iter().flat_map(words).any(|word| word == function.name);
+            let named = quoted(row[0])
+                .into_iter()
+                .flat_map(words)
+                .any(|word| word == function.name);
             let last = quoted(row[row.len() - 1]).into_iter().flat_map(words);
             named && last.filter(|word| labels.contains(*word)).count() >= 2
         })
@@ -218,17 +256,31 @@ fn every_public_function_has_two_wrong_answers() {
         .filter(|function| !two_for(function))
         .map(|function| format!("{} of {}", function.name, crate_of(&function.path)))
         .collect();
-    println!("public functions: {}, without two wrong answers {}", public.len(), missing.len());
+    println!(
+        "public functions: {}, without two wrong answers {}",
+        public.len(),
+        missing.len()
+    );
     assert!(missing.is_empty(), "not in PROMISES.md: {missing:#?}");
 }
 
 #[test]
 fn public_functions_require_nothing() {
     let all = all_functions();
-    let requiring: Vec<&str> = all.iter().filter(|f| f.public && f.requires).map(|f| f.name.as_str()).collect();
+    let requiring: Vec<&str> = all
+        .iter()
+        .filter(|f| f.public && f.requires)
+        .map(|f| f.name.as_str())
+        .collect();
     let private = all.iter().filter(|f| !f.public && f.requires).count();
-    println!("functions: {}, private ones with a requires {private}", all.len());
-    assert!(requiring.is_empty(), "public with a requires: {requiring:?}");
+    println!(
+        "functions: {}, private ones with a requires {private}",
+        all.len()
+    );
+    assert!(
+        requiring.is_empty(),
+        "public with a requires: {requiring:?}"
+    );
     assert!(private > 0, "no requires was seen at all");
 }
 
@@ -236,9 +288,21 @@ fn public_functions_require_nothing() {
 fn functions_are_small() {
     let all = all_functions();
     let longest = all.iter().max_by_key(|f| f.lines).expect("functions");
-    println!("the longest function is {} with {} lines", longest.name, longest.lines);
-    assert!(longest.lines <= 40, "{} has {} lines", longest.name, longest.lines);
-    let loops: Vec<&str> = all.iter().filter(|f| f.loops > 1).map(|f| f.name.as_str()).collect();
+    println!(
+        "the longest function is {} with {} lines",
+        longest.name, longest.lines
+    );
+    assert!(
+        longest.lines <= 40,
+        "{} has {} lines",
+        longest.name,
+        longest.lines
+    );
+    let loops: Vec<&str> = all
+        .iter()
+        .filter(|f| f.loops > 1)
+        .map(|f| f.name.as_str())
+        .collect();
     assert!(loops.is_empty(), "more than one loop: {loops:?}");
     assert!(all.iter().any(|f| f.loops == 1), "no loop was seen at all");
 }
