@@ -11,7 +11,7 @@ use lib.ListN.{length, getD, drop, drop-of-length-le}
 use lib.Seq.{drop-cons}
 use lib.Dec.{ltb, leb, eqb}
 use Rattle.der.specs.Content.{booleanOk, integerOk, arcsOk, at80, has80, begins, contentOk}
-use Rattle.der.proofs.Auto.{or-left, or-right}
+use Rattle.der.proofs.Auto.{or-false-left, or-false-right}
 
 -- after a byte another arc begins or it goes on
 begins-next : (c : List ℕ) (i : ℕ) → begins c (i + 1) ≡ ltb (getD c i 0) 128
@@ -90,9 +90,9 @@ last-is x (y ∷ c) = last-is y c
 
 plain : (fresh : Bool) (x : ℕ) (c : List ℕ) → has80 (x ∷ c) ≡ false → arcsOk fresh (x ∷ c) ≡ ltb (last-of x c) 128
 unfolding has80 arcsOk last-of
-plain fresh x [] e = simp (or-left (eqb x 128) false e, and-false)
+plain fresh x [] e = simp (or-false-left (eqb x 128) false e, and-false)
 plain fresh x (y ∷ c) e =
-    simp (or-left (eqb x 128) (has80 (y ∷ c)) e, and-false) (plain (ltb x 128) y c (or-right (eqb x 128) (has80 (y ∷ c)) e))
+    simp (or-false-left (eqb x 128) (has80 (y ∷ c)) e, and-false) (plain (ltb x 128) y c (or-false-right (eqb x 128) (has80 (y ∷ c)) e))
 
 -- without a byte 80 the last byte decides
 pub arcs-plain : (c : List ℕ) → 0 < length c → has80 c ≡ false → arcsOk true c ≡ ltb (getD c (length c - 1) 0) 128

@@ -16,7 +16,7 @@ use Rattle.der.specs.declared.element.Element.the-variants.{Primitive, C
 use Rattle.der.specs.Head.{byte, tagOk, inside, oneByte, twoBytes, lengthOf, headOf, headBytes}
 use Rattle.der.specs.Content.{contentOk}
 use Rattle.der.specs.Element.{constructed, formOk, judge, elementOf}
-use Rattle.der.proofs.Auto.{or-left, or-right}
+use Rattle.der.proofs.Auto.{or-false-left, or-false-right}
 use Rattle.der.proofs.HeadLaws.{cond-case, cond-both}
 
 -- each is a byte
@@ -82,11 +82,11 @@ length-written s b ok =
     cond-both P (eqb (byte s 1) 129)
     (λ v. cond-both P (ltb (length s) 3 || ltb (byte s 2) 128) (λ w. bad s 2) λ w.
     inside-written s (byte s 0) 3 (byte s 2)
-    (one-written s b (ltb-false _ _ (or-left _ _ w)) (ltb-false _ _ (or-right (ltb (length s) 3) _ w)) (eqb-true _ _ v)) ok (omega arith)) λ v.
+    (one-written s b (ltb-false _ _ (or-false-left _ _ w)) (ltb-false _ _ (or-false-right (ltb (length s) 3) _ w)) (eqb-true _ _ v)) ok (omega arith)) λ v.
     cond-both P (eqb (byte s 1) 130)
     (λ x. cond-both P (ltb (length s) 4 || eqb (byte s 2) 0) (λ w. bad s 2) λ w.
     inside-written s (byte s 0) 4 (byte s 2 * 256 + byte s 3)
-    (two-written s b (ltb-false _ _ (or-left _ _ w)) (omega (arith, eqb-false (byte s 2) 0 (or-right (ltb (length s) 4) _ w))) (eqb-true _ _ x)) ok (omega arith))
+    (two-written s b (ltb-false _ _ (or-false-left _ _ w)) (omega (arith, eqb-false (byte s 2) 0 (or-false-right (ltb (length s) 4) _ w))) (eqb-true _ _ x)) ok (omega arith))
     (λ x. bad s 2)
 
 head-written : (s : List ℕ) → Bytes s → Written s (headOf s)

@@ -18,7 +18,8 @@ use Rattle.grammar.specs.Cursor.{tagAt, needOf, anyOf, doneOf, enterOf, 
 use Rattle.grammar.specs.Parts.{sequenceField}
 use Rattle.grammar.specs.Entries.{entriesOf, onlyOf}
 use Rattle.grammar.specs.Body.{atLeastOne, requestsOf, responsesOf, confirmationsOf, errorOf, plain, p10crOf, otherOf, contentsOf, bodyTag, bodyOf}
-use Rattle.grammar.proofs.Places.{Ok, untrue, wide, Went, Took, Takes, _then_, need-takes, any-takes, ended, left, at-leave, Nest, nest}
+use Rattle.grammar.proofs.CursorLaws.{untrue}
+use Rattle.grammar.proofs.Places.{Ok, wide, Went, Took, Takes, _then_, need-takes, any-takes, ended, left, at-leave, Nest, nest}
 use Rattle.grammar.proofs.PartPlaces.{Between, no-span, whole-span, found-span, sequence-field-steps}
 use Rattle.grammar.proofs.EntryPlaces.{EntryIn, no-entry, entry-wide, entries-in, only-in}
 

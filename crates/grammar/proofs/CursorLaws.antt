@@ -13,7 +13,7 @@ use lib.Dec.{ltb, leb, eqb, lit<}
 use Rattle.der.specs.Head.{byte, headOf, packedOf}
 use Rattle.der.specs.declared.head.Head.{Head}
 use Rattle.der.specs.declared.head.Head.the-variants.{Bad, Whole}
-use Rattle.der.proofs.Auto.{and-left, and-right, or-left, or-right}
+use Rattle.der.proofs.Auto.{and-left, and-right, or-false-left, or-false-right}
 use Rattle.der.proofs.HeadLaws.{cond-both, span-in, whole-in, whole-tag, unpacked}
 use Rattle.grammar.specs.declared.cursor.Cursor.{Cursor}
 use Rattle.grammar.specs.Cursor.{isOk, headIn, faultAt, pastOf, ifTag, packedIf, taggedOf, needOf, leaveOf, shiftIn, signed32, moreAt, leftAt, repeat}
@@ -26,7 +26,7 @@ module _ (m : List ℕ) (at end : ℕ) {tag start len : ℕ} (whole : headIn m a
       cond-both (λ (h : Head). h ≡ Whole tag start len → (at < end) × (end ≤ length m) × (headOf (take (end - at) (drop at m)) ≡ Whole tag start len))
       (leb end at || ltb (length m) end)
       (λ t q. let z : _≡_ {A = ℕ} 0 1 = cc in absurd (omega arith))
-      (λ t q. (leb-false _ _ (or-left _ (ltb (length m) end) t), ltb-false _ _ (or-right (leb end at) _ t), q))
+      (λ t q. (leb-false _ _ (or-false-left _ (ltb (length m) end) t), ltb-false _ _ (or-false-right (leb end at) _ t), q))
       whole
 
   pub head-in-parent : (2 ≤ start) × (at + start + len ≤ end) × (end ≤ length m)
@@ -105,24 +105,24 @@ pub record Moved (c r : Cursor) : Type 0 where
   pub end : isOk r ≡ true → r .end ≡ c .end
   pub on : isOk r ≡ true → c .at < r .at
 
-never : {X : Type 0} → false ≡ true → X
-never e = absurd (true≢false (sym e))
+pub untrue : {X : Type 0} → false ≡ true → X
+untrue e = absurd (true≢false (sym e))
 
 moved-past : (m : List ℕ) (tag : ℕ) (c : Cursor) (h : Head) → h ≡ headIn m (c .at) (c .end) → Moved c (ifTag tag c h)
-moved-past m tag c (Bad rule) e = record { end = never; on = never }
+moved-past m tag c (Bad rule) e = record { end = untrue; on = untrue }
 moved-past m tag c (Whole t start len) e =
     cond-both (Moved c) (eqb t tag)
     (λ q. record { end = λ k. refl; on = λ k. omega (arith, head-in-parent m (c .at) (c .end) (sym e)) })
-    (λ q. record { end = never; on = never })
+    (λ q. record { end = untrue; on = untrue })
 
 pub moved-need : (m : List ℕ) (tag : ℕ) (c : Cursor) → Moved c (needOf m tag c)
 unfolding needOf
 moved-need m tag c =
-    cond-both (Moved c) (isOk c) (λ q. moved-past m tag c (headIn m (c .at) (c .end)) refl) (λ q. record { end = λ k. never (sym q ∙ k); on = λ k. never (sym q ∙ k) })
+    cond-both (Moved c) (isOk c) (λ q. moved-past m tag c (headIn m (c .at) (c .end)) refl) (λ q. record { end = λ k. untrue (sym q ∙ k); on = λ k. untrue (sym q ∙ k) })
 
 pub moved-leave : {c s : Cursor} (i : Cursor) → Moved c s → Moved c (leaveOf s i)
 unfolding leaveOf
-moved-leave {c} i h = cond-both (Moved c) (isOk i) (λ q. h) (λ q. record { end = λ k. never (sym q ∙ k); on = λ k. never (sym q ∙ k) })
+moved-leave {c} i h = cond-both (Moved c) (isOk i) (λ q. h) (λ q. record { end = λ k. untrue (sym q ∙ k); on = λ k. untrue (sym q ∙ k) })
 
 -- ## A loop over elements, for any state that has a cursor and any step that moves it
 

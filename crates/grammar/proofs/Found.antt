@@ -23,7 +23,8 @@ use Rattle.grammar.specs.Parts.{spanFrom, outerSpan, wholeSpan, foundOf,
 use Rattle.grammar.specs.Header.{headerOf}
 use Rattle.grammar.specs.Body.{bodyOf}
 use Rattle.grammar.specs.Message.{startAt, messageOf}
-use Rattle.grammar.proofs.Places.{Ok, untrue, Went, Took, Takes, _then_, need-takes, ended, left, at-done, at-leave, Nest, nest, Placed, took-kept, done-kept, leave-kept}
+use Rattle.grammar.proofs.CursorLaws.{untrue}
+use Rattle.grammar.proofs.Places.{Ok, Went, Took, Takes, _then_, need-takes, ended, left, at-done, at-leave, Nest, nest, Placed, took-kept, done-kept, leave-kept}
 use Rattle.grammar.proofs.Places.Spot.{absent}
 use Rattle.grammar.proofs.PartPlaces.{Between, no-span, whole-span, field-steps, sequence-field-steps}
 use Rattle.grammar.proofs.HeaderPlaces.{HeaderIn, header-takes, header-in}

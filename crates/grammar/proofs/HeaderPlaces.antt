@@ -13,7 +13,8 @@ use Rattle.grammar.specs.declared.pki_header.Ids.{Ids}
 use Rattle.grammar.specs.Cursor.{tagAt, needOf, doneOf, enterOf, leaveOf, smallOf}
 use Rattle.grammar.specs.Parts.{fieldOf, typedField, sequenceField}
 use Rattle.grammar.specs.Header.{nameTag, nameOf, namesOf, optionsOf, idsOf, headerOf}
-use Rattle.grammar.proofs.Places.{Ok, untrue, wide, On, Went, Took, Takes, _then_, need-takes, small-takes, ended, left, at-leave, Nest, nest}
+use Rattle.grammar.proofs.CursorLaws.{untrue}
+use Rattle.grammar.proofs.Places.{Ok, wide, On, Went, Took, Takes, _then_, need-takes, small-takes, ended, left, at-leave, Nest, nest}
 use Rattle.grammar.proofs.PartPlaces.{Between, whole-span, found-span, field-steps, typed-field-steps, sequence-field-steps}
 
 pub name-takes : (m : List ℕ) (c : Cursor) → Takes c (nameOf m c)

@@ -13,13 +13,10 @@ use Rattle.der.proofs.HeadLaws.{cond-both, cond-case}
 use Rattle.grammar.specs.declared.cursor.Cursor.{Cursor}
 use Rattle.grammar.specs.Cursor.{isOk, headIn, tagAt, pastOf, ifTag, needOf, anyOf, noneOf, maybeOf, restOf, doneOf, enterOf, leaveOf, smallOf, moreAt, repeat}
 use Rattle.grammar.specs.Parts.{foundOf}
-use Rattle.grammar.proofs.CursorLaws.{head-in-parent}
+use Rattle.grammar.proofs.CursorLaws.{head-in-parent, untrue}
 
 abbrev pub Ok : Cursor → Type 0
 Ok c = isOk c ≡ true
-
-pub untrue : {X : Type 0} → false ≡ true → X
-untrue e = absurd (true≢false (sym e))
 
 -- from one offset up to another: absent, or between a and b
 pub data Spot (a b from to : ℕ) : Type 0 where

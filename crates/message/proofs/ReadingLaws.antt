@@ -11,7 +11,7 @@ use lib.Dec.{ltb, eqb}
 use Rattle.der.specs.Element.{check, isSound}
 use Rattle.der.specs.declared.element.Check.{Check}
 use Rattle.der.specs.declared.element.Check.the-variants.{Sound, Fault}
-use Rattle.der.proofs.Auto.{or-left, or-right}
+use Rattle.der.proofs.Auto.{or-cases, or-false-left, or-false-right}
 use Rattle.der.proofs.HeadLaws.{cond-both}
 use Rattle.der.proofs.RuleLaws.{check-rule}
 use Rattle.grammar.specs.declared.Message.{Message}
@@ -72,10 +72,6 @@ same-at e g = cc
 no-fault : {v : Check} {a q : ℕ} → v ≡ Sound → v ≡ Fault a q → ⊥
 no-fault e g = let z : _≡_ {A = ℕ} 0 1 = cc in omega arith
 
-either : (a b : Bool) → (a || b) ≡ true → (a ≡ true) ⊎ (b ≡ true)
-either true b e = inl refl
-either false b e = inr e
-
 module _ (m : List ℕ) (some : 1 ≤ length m) (few : length m ≤ maxMessage) where
   says-broken : {at rule : ℕ} → Lowest m at rule → Says m (broken at rule)
   unfolding Says
@@ -105,8 +101,8 @@ says : (m : List ℕ) → Says m (readingOf m)
 unfolding readingOf Says
 says m =
     cond-both (Says m) (eqb (length m) 0 || ltb maxMessage (length m))
-    (λ t. inl (refl, ⊎-elim (λ e. inl (eqb-true (length m) 0 e)) (λ e. inr (ltb-true maxMessage (length m) e)) (either (eqb (length m) 0) (ltb maxMessage (length m)) t)))
-    (λ t. says-lowest m (omega (arith, eqb-false (length m) 0 (or-left (eqb (length m) 0) (ltb maxMessage (length m)) t))) (ltb-false maxMessage (length m) (or-right (eqb (length m) 0) (ltb maxMessage (length m)) t)) (check m) refl)
+    (λ t. inl (refl, ⊎-elim (λ e. inl (eqb-true (length m) 0 e)) (λ e. inr (ltb-true maxMessage (length m) e)) (or-cases (eqb (length m) 0) (ltb maxMessage (length m)) t)))
+    (λ t. says-lowest m (omega (arith, eqb-false (length m) 0 (or-false-left (eqb (length m) 0) (ltb maxMessage (length m)) t))) (ltb-false maxMessage (length m) (or-false-right (eqb (length m) 0) (ltb maxMessage (length m)) t)) (check m) refl)
 
 -- ## What a user of the reader may rely on
 

@@ -31,7 +31,8 @@ use Rattle.protocol.specs.Refusals.{notSixteen, Check, check, pass, stop
 use Rattle.protocol.specs.RegistrarRows.{names, registrarRows}
 use Rattle.protocol.specs.Registrar.{registrarFields, registrarChecked, registrarMessage, registrarRead, confirmed}
 use Rattle.protocol.specs.Confirmation.{Sixteen, Matches, LeadsTo, Repeating, Moving}
-use Rattle.protocol.proofs.Tests.{true-false, other-than, some-some, none-some, eqb-eq, not-false, holds-not, same-number, board-eq, and-left, and-right}
+use Rattle.der.proofs.Auto.{and-left, and-right}
+use Rattle.protocol.proofs.Tests.{true-false, other-than, some-some, none-some, eqb-eq, not-false, holds-not, same-number, board-eq}
 use Rattle.protocol.proofs.RegistrarStates.{settled-one, is-granted}
 use Rattle.protocol.proofs.Carried.{part-there}
 use Rattle.protocol.proofs.RegistrarPasses.{protected-it, id-it, sender-it, recip-it, kind-is, one-it, names-it, version-it, alg-it, request-it, hash-it, known-it, same-nonce-it, takes-it, opens-it}

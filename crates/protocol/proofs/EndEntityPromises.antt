@@ -28,7 +28,8 @@ use Rattle.protocol.specs.EndEntity.{enrolmentMoved, inState, endEntityT
 use Rattle.protocol.specs.Promises.{OneOf, EndEntityPromise, endEntityNumbers}
 use Rattle.protocol.specs.Request.{IsRequest}
 use Rattle.protocol.specs.EnrolmentRules.{StartRule, TimeOutRule, becomes}
-use Rattle.protocol.proofs.Tests.{true-false, cases, or-cases, one-of, eqb-eq, request-kind}
+use Rattle.der.proofs.Auto.{or-cases}
+use Rattle.protocol.proofs.Tests.{true-false, cases, one-of, eqb-eq, request-kind}
 use Rattle.protocol.proofs.Rows.{one-in, numbersOf, applies-number, stops}
 use Rattle.protocol.proofs.RegistrarPromises.{refused-number, done-refused}
 

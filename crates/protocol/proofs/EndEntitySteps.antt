@@ -27,7 +27,8 @@ use Rattle.protocol.specs.EndEntityRows.{endEntityRows, acknowledges, re
 use Rattle.protocol.specs.EndEntity.{enrolmentRefused, inState, enrolmentMoved, confirmedEnrolment, confirming, endEntityTimeOut, endEntityChecked, afterRefusal, endEntityRead, endEntityMessage}
 use Rattle.protocol.specs.Run.{Event, TheRegistrar, World, BoardEnrolment, sentBy, ToEndEntity}
 use Rattle.protocol.specs.Agreement.{Issued, IssuedReading, ByGood, Carries, SenderIssued}
-use Rattle.protocol.proofs.Tests.{none-some, true-false, some-some, cases, not-false, passes, isId-eq, isNonce-eq, eqb-eq, or-right, and-false, or-false-left}
+use Rattle.der.proofs.Auto.{or-false-left}
+use Rattle.protocol.proofs.Tests.{none-some, true-false, some-some, cases, not-false, passes, isId-eq, isNonce-eq, eqb-eq, or-right, and-false}
 use Rattle.protocol.proofs.EnrolmentStates.{standsFor, hasConfirmed, isAnswered, broken-stands, broken-confirmed, broken-answered, assured-stands, assured-confirmed, waiting-stands, decided-stands, decided-status, decided-open}
 use Rattle.protocol.proofs.Carried.{id-read, kind-read, recip-read}
 use Rattle.protocol.proofs.Invariant.{Inv, At, EndEntityStep, Sent, Answered}

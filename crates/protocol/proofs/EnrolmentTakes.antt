@@ -22,7 +22,8 @@ use Rattle.protocol.specs.EndEntityRows.{endEntityRows, responds, acknow
 use Rattle.protocol.specs.EndEntity.{endEntityMessage, endEntityChecked, endEntityRead}
 use Rattle.protocol.specs.Confirmation.{Sixteen}
 use Rattle.protocol.specs.EnrolmentRules.{Heard, Acknowledges, StatusIs, Reports, Responds}
-use Rattle.protocol.proofs.Tests.{true-false, not-false, passes, isId-eq, isNonce-eq, one-of, and-left, and-right, eqb-eq, and-false, or-false-right, or-false-left, or-cases, or-right, both, other-than}
+use Rattle.der.proofs.Auto.{and-left, and-right, or-false-right, or-false-left, or-cases}
+use Rattle.protocol.proofs.Tests.{true-false, not-false, passes, isId-eq, isNonce-eq, one-of, eqb-eq, and-false, or-right, both, other-than}
 use Rattle.protocol.proofs.RegistrarPromises.{done-refused}
 use Rattle.protocol.proofs.ConfirmationMoves.{sixteen, part-of, present-part}
 

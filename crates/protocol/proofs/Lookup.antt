@@ -11,7 +11,8 @@ use Rattle.protocol.specs.declared.TransactionTable.{TransactionTable}
 use Rattle.protocol.specs.Bytes.{sameId}
 use Rattle.protocol.specs.Table.{isFree, lookup, isFor, replace, put, hasRoom, freeTransaction, emptyTable, capacity}
 use Rattle.protocol.specs.Agreement.{RegistrarHolds}
-use Rattle.protocol.proofs.Tests.{id-eq, and-right, and-left, sameBytes-refl, some-some, none-some, true-false}
+use Rattle.der.proofs.Auto.{and-right, and-left}
+use Rattle.protocol.proofs.Tests.{id-eq, sameBytes-refl, some-some, none-some, true-false}
 use Rattle.protocol.proofs.RegistrarStates.{in-use}
 
 -- no id stands twice among the transactions in use
@@ -22,7 +23,7 @@ Unique (r ∷ rs) = (isFree (r .state) ≡ false → lookup rs (r .id) ≡ none)
 pub isFor-id : (i : TransactionId) (r : Transaction) → isFor i r ≡ true → r .id ≡ i
 isFor-id i r e = id-eq (r .id) i (and-right (not (isFree (r .state))) _ e)
 
-not-true : (b : Bool) → not b ≡ true → b ≡ false
+pub not-true : (b : Bool) → not b ≡ true → b ≡ false
 not-true true e = sym e
 not-true false e = refl
 

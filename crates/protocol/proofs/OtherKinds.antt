@@ -18,7 +18,8 @@ use Rattle.protocol.specs.Refusals.{check, pass, Check, stop}
 use Rattle.protocol.specs.RegistrarRows.{opens, confirms, registrarRows}
 use Rattle.protocol.specs.Registrar.{registrarChecked, registrarMessage, registrarFields}
 use Rattle.protocol.specs.MessageRules.{OtherKind, IsRefused}
-use Rattle.protocol.proofs.Tests.{or-cases, eqb-eq, not-false, passes}
+use Rattle.der.proofs.Auto.{or-cases}
+use Rattle.protocol.proofs.Tests.{eqb-eq, not-false, passes}
 use Rattle.protocol.proofs.ConfirmationMoves.{message-at}
 use Rattle.protocol.proofs.EndEntityPromises.{is-request}
 

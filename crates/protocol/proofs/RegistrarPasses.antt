@@ -14,7 +14,8 @@ use Rattle.protocol.specs.Table.{hasRoom}
 use Rattle.protocol.specs.States.{hasSent, hasHash, isGranted, settledBy}
 use Rattle.protocol.specs.Refusals.{pass, check, notSixteen}
 use Rattle.protocol.specs.RegistrarRows.{registrarRows, isGood, confirms, opens, names, hasEntries, oneEntry, repeats}
-use Rattle.protocol.proofs.Tests.{passes, one-of, not-false, or-right, and-true-false, true-false, eqb-eq, and-false, isNonce-eq, and-right, or-true, both, hash-eq, and-left, or-left}
+use Rattle.der.proofs.Auto.{and-right, and-left}
+use Rattle.protocol.proofs.Tests.{passes, one-of, not-false, or-right, and-true-false, true-false, eqb-eq, and-false, isNonce-eq, or-true, both, hash-eq, or-left}
 
 -- 7: the verdict is good
 pub passes-7 : (rs : List Transaction) (g : Option Transaction) (v : Verdict) (m : Fields) → check (registrarRows rs g v m) ≡ pass → not (isGood v) ≡ false

@@ -29,7 +29,8 @@ use Rattle.protocol.specs.RegistrarRows.{isGood, registrarRows, oneEntry
 use Rattle.protocol.specs.Registrar.{registrarChecked, registrarMessage, openedTransaction, doneQuietly}
 use Rattle.protocol.specs.Confirmation.{Sixteen}
 use Rattle.protocol.specs.Request.{IsRequest, Opening, Opened, RequestRule}
-use Rattle.protocol.proofs.Tests.{true-false, eqb-eq, not-false, passes, request-kind, and-false, one-of, and-left, and-right, both, off-left, off-right, holds-not, same-number, either}
+use Rattle.der.proofs.Auto.{and-left, and-right}
+use Rattle.protocol.proofs.Tests.{true-false, eqb-eq, not-false, passes, request-kind, and-false, one-of, both, off-left, off-right, holds-not, same-number, either}
 use Rattle.protocol.proofs.Carried.{part-there, part-absent}
 use Rattle.protocol.proofs.RegistrarPasses.{passes-7, room, conf}
 use Rattle.protocol.proofs.Rows.{check-is, skip, through}

@@ -9,7 +9,8 @@ use lib.Dec.{eqb, leb, leb→le}
 use native.Mathlib.Nat.{le-refl}
 use Rattle.protocol.specs.Refusals.{Row, stop, pass, check, Check}
 use Rattle.protocol.specs.Promises.{OneOf, Applies}
-use Rattle.protocol.proofs.Tests.{eqb-eq, true-false, or-cases, and-left, and-right, true→T}
+use Rattle.der.proofs.Auto.{or-cases, and-left, and-right}
+use Rattle.protocol.proofs.Tests.{eqb-eq, true-false, true→T}
 
 -- ## Numbers in a list
 

@@ -7,6 +7,7 @@ use mathlib.Core.Path.{_≡_, refl, sym, _∙_, ap}
 use mathlib.Core.Logic.{_⊎_, inl, inr}
 use native.Mathlib.Omega.{arith}
 use lib.Dec.{eqb, T, eqb→eq, eqb-refl}
+use Rattle.der.proofs.Auto.{and-left, and-right, or-cases}
 use Rattle.protocol.specs.declared.Board.{Board}
 use Rattle.protocol.specs.declared.TransactionId.{TransactionId}
 use Rattle.protocol.specs.declared.Nonce.{Nonce}
@@ -15,14 +16,6 @@ use Rattle.protocol.specs.Bytes.{sameBytes, sameId, sameNonce, sameHash,
 use Rattle.protocol.specs.Message.{isEnrolmentKind}
 use Rattle.protocol.specs.Refusals.{Row, pass, check, stop}
 use Rattle.protocol.specs.Request.{IsRequest}
-
-pub and-left : (a b : Bool) → (a && b) ≡ true → a ≡ true
-and-left true b e = refl
-and-left false b e = e
-
-pub and-right : (a b : Bool) → (a && b) ≡ true → b ≡ true
-and-right true b e = e
-and-right false b e = let z : _≡_ {A = ℕ} 0 1 = cc in absurd (omega arith)
 
 pub true-false : {A : Type 0} → true ≡ false → A
 true-false e = let z : _≡_ {A = ℕ} 0 1 = cc in absurd (omega arith)
@@ -120,18 +113,6 @@ or-right false b e t = e
 pub or-left : (a b : Bool) → (a || b) ≡ true → b ≡ false → a ≡ true
 or-left true b e t = refl
 or-left false b e t = true-false (sym e ∙ t)
-
-pub or-cases : (a b : Bool) → (a || b) ≡ true → (a ≡ true) ⊎ (b ≡ true)
-or-cases true b e = inl refl
-or-cases false b e = inr e
-
-pub or-false-left : (a b : Bool) → (a || b) ≡ false → a ≡ false
-or-false-left true b e = e
-or-false-left false b e = refl
-
-pub or-false-right : (a b : Bool) → (a || b) ≡ false → b ≡ false
-or-false-right true b e = true-false e
-or-false-right false b e = e
 
 pub and-true-false : (a : Bool) → (a && true) ≡ false → a ≡ false
 and-true-false true e = e

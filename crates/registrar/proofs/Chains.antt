@@ -28,10 +28,6 @@ on {a} {b} {t} e f = rw e f
 pub off : {a : Bool} (b : Bool) → a ≡ false → (a && b) ≡ false
 off b e = rw e
 
-pub not-true : (b : Bool) → not b ≡ true → b ≡ false
-not-true true e = true-false (sym e)
-not-true false e = refl
-
 -- a part is there where its span says so
 pub present-is : (bytes : List ℕ) (s : Span) → present (optionalPart bytes s) ≡ isPresent s
 present-is bytes s = by (isPresent s)

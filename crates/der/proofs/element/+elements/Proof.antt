@@ -9,7 +9,7 @@ use lib.Dec.{ltb, eqb}
 use native.Mathlib.Nat.{add-zero}
 use native.Mathlib.Omega.{arith}
 use borrow.Author.Tests.{eqb-false, ltb-false}
-use Rattle.der.proofs.Auto.{tests, told, or-left, or-right}
+use Rattle.der.proofs.Auto.{tests, told, or-false-left, or-false-right}
 use Rattle.der.proofs.KindLaws.{Read, read-short, read-long, element-kind, no-room}
 use Rattle.der.proofs.ElementLaws.{tail-is, Found, kind-faulty, ends-in, goes-on, holds-in, goes-in, goes-past, hands-on, at-faulty, check-end}
 use Rattle.der.specs.declared.element.Check.the-variants.{Fault}
@@ -64,7 +64,7 @@ two-left : (t : ℕ) (c : elements-lts.Else1 (
 two-left t c =
     let l = c .before .before .before in
     let left = length (l .before .before .args .s .now) - l .loop .i in
-    ltb-false left 2 (or-right (eqb (l .loop .d) 0) (ltb left 2) (told (c .before .no-room .ensures) (c .if1 .left)))
+    ltb-false left 2 (or-false-right (eqb (l .loop .d) 0) (ltb left 2) (told (c .before .no-room .ensures) (c .if1 .left)))
 
 -- what was read of a length, by whichever way
 read-here : (t : ℕ) (c : elements-lts.Joined2 (
@@ -114,7 +114,7 @@ found t w =
     let l = w .before .before .before .before .before .before .before .before in
     let s = l .before .before .args .s .now in
     let room = told (w .before .before .before .before .before .before .no-room .ensures) (w .before .before .before .before .before .if1 .left) in
-    let level = eqb-false (l .loop .d) 0 (or-left (eqb (l .loop .d) 0) (ltb (length s - l .loop .i) 2) room) in
+    let level = eqb-false (l .loop .d) 0 (or-false-left (eqb (l .loop .d) 0) (ltb (length s - l .loop .i) 2) room) in
     record {
       is = rw (w .kind-at .ensures) (element-kind (l .loop .d) (drop (l .loop .i) s) (w .before .if2 .start) (w .before .if2 .len) (read-here t (w .before)) level);
       here = w .before .before .before .before .before .before .before .loop-test .taken;

@@ -5,7 +5,7 @@ use mathlib.Core.List.{List}
 use mathlib.Core.Bool.{Bool, true, false, cond, _||_}
 use borrow.Author.Tests.{eqb-true}
 use lib.Dec.{eqb}
-use Rattle.der.proofs.Auto.{tests, told, or-left, or-right}
+use Rattle.der.proofs.Auto.{tests, told, or-false-left, or-false-right}
 use Rattle.grammar.specs.declared.cursor.Cursor.{Cursor}
 use Rattle.grammar.specs.Body.{requestsOf, responsesOf, errorOf, confirmationsOf, otherOf, contentsOf}
 use Rattle.grammar.proofs.pki_body.contents_of.Statement.{statement}
@@ -32,9 +32,9 @@ module _ (m : List ℕ) (c : Cursor) (kind : ℕ) where
   of-neither : (eqb kind 0 || (eqb kind 2 || eqb kind 7)) ≡ false → (eqb kind 1 || (eqb kind 3 || eqb kind 8)) ≡ false → contentsOf m kind c ≡ cond (eqb kind 23) (errorOf m c) (cond (eqb kind 24) (confirmationsOf m c) (otherOf m kind c))
   unfolding contentsOf
   of-neither e f =
-      let e2 = or-right (eqb kind 0) (eqb kind 2 || eqb kind 7) e in
-      let f3 = or-right (eqb kind 1) (eqb kind 3 || eqb kind 8) f in
-      simp (or-left (eqb kind 0) (eqb kind 2 || eqb kind 7) e, or-left (eqb kind 2) (eqb kind 7) e2, or-right (eqb kind 2) (eqb kind 7) e2, or-left (eqb kind 1) (eqb kind 3 || eqb kind 8) f, or-left (eqb kind 3) (eqb kind 8) f3, or-right (eqb kind 3) (eqb kind 8) f3)
+      let e2 = or-false-right (eqb kind 0) (eqb kind 2 || eqb kind 7) e in
+      let f3 = or-false-right (eqb kind 1) (eqb kind 3 || eqb kind 8) f in
+      simp (or-false-left (eqb kind 0) (eqb kind 2 || eqb kind 7) e, or-false-left (eqb kind 2) (eqb kind 7) e2, or-false-right (eqb kind 2) (eqb kind 7) e2, or-false-left (eqb kind 1) (eqb kind 3 || eqb kind 8) f, or-false-left (eqb kind 3) (eqb kind 8) f3, or-false-right (eqb kind 3) (eqb kind 8) f3)
 
 pub contents-of-spec : {M : Type 1} → statement M
 contents-of-spec = tie.close (tie.spec

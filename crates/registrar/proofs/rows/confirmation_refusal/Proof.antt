@@ -10,7 +10,8 @@ use lib.Dec.{eqb}
 use Rattle.incoming.proofs.RowLaws.{lowest}
 use Rattle.registrar.specs.Steps.{foundBy}
 use Rattle.protocol.proofs.Tests.{not-false}
-use Rattle.registrar.proofs.Chains.{not-true, is-24-not, taking}
+use Rattle.protocol.proofs.Lookup.{not-true}
+use Rattle.registrar.proofs.Chains.{is-24-not, taking}
 use Rattle.registrar.proofs.Chains as chains
 use Rattle.registrar.proofs.rows.confirmation_refusal.Statement.{statement}
 use Rattle.registrar.proofs.rows.confirmation_refusal.Tie as tie

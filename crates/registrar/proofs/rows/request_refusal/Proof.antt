@@ -7,7 +7,8 @@ use Rattle.protocol.specs.Message.{fieldsOf}
 use Rattle.incoming.proofs.RowLaws.{lowest}
 use Rattle.registrar.specs.Steps.{foundBy}
 use Rattle.protocol.proofs.Tests.{not-false}
-use Rattle.registrar.proofs.Chains.{not-true, present-is, known-is, not-24, counted, uncounted}
+use Rattle.protocol.proofs.Lookup.{not-true}
+use Rattle.registrar.proofs.Chains.{present-is, known-is, not-24, counted, uncounted}
 use Rattle.registrar.proofs.Chains as chains
 use Rattle.registrar.proofs.rows.request_refusal.Statement.{statement}
 use Rattle.registrar.proofs.rows.request_refusal.Tie as tie
