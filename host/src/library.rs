@@ -1,9 +1,9 @@
 //! The calls of the compiled library, `libduskstall.a`, as they are: over
 //! slices, answered by a number and by bytes.
 //!
-//! All that decides is in the library. Nothing checks the declarations here
-//! against it: each follows the boundary by hand, a slice as a pointer and a
-//! length and a number as itself.
+//! All that decides is in the library. Its declarations are in `foreign`.
+
+mod foreign;
 
 /// A call's number where the bytes of the table or the enrolment are none.
 /// Nothing has changed, as with the next two; the lowest that applies is given.
@@ -20,100 +20,12 @@ pub const NO_ROOM: u64 = 253;
 // reads what is lent `const`, reads and writes nothing outside of the slices
 // and keeps no pointer, and slices lent `mut` do not overlap others.
 
-extern "C" {
-    fn duskstall_read(message: *const u8, len: usize, fields: *mut u64, fields_len: usize) -> u64;
-    fn duskstall_check(bytes: *const u8, len: usize) -> u64;
-    fn duskstall_size(what: u8) -> u64;
-    fn duskstall_registrar_empty(table: *mut u8, table_len: usize) -> u64;
-    fn duskstall_registrar_message(
-        table: *mut u8,
-        table_len: usize,
-        message: *const u8,
-        message_len: usize,
-        good: u8,
-        board: u16,
-        nonce: *const u8,
-        nonce_len: usize,
-        answer: *mut u8,
-        answer_len: usize,
-    ) -> u64;
-    fn duskstall_registrar_issue(
-        table: *mut u8,
-        table_len: usize,
-        id: *const u8,
-        id_len: usize,
-        nonce: *const u8,
-        nonce_len: usize,
-        hash: *const u8,
-        hash_len: usize,
-        answer: *mut u8,
-        answer_len: usize,
-    ) -> u64;
-    fn duskstall_registrar_refuse(
-        table: *mut u8,
-        table_len: usize,
-        id: *const u8,
-        id_len: usize,
-        nonce: *const u8,
-        nonce_len: usize,
-        answer: *mut u8,
-        answer_len: usize,
-    ) -> u64;
-    fn duskstall_registrar_lapse(
-        table: *mut u8,
-        table_len: usize,
-        id: *const u8,
-        id_len: usize,
-        answer: *mut u8,
-        answer_len: usize,
-    ) -> u64;
-    fn duskstall_registrar_close(
-        table: *mut u8,
-        table_len: usize,
-        id: *const u8,
-        id_len: usize,
-        answer: *mut u8,
-        answer_len: usize,
-    ) -> u64;
-    fn duskstall_end_entity_start(
-        enrolment: *mut u8,
-        enrolment_len: usize,
-        kind: u8,
-        id: *const u8,
-        id_len: usize,
-        nonce: *const u8,
-        nonce_len: usize,
-        answer: *mut u8,
-        answer_len: usize,
-    ) -> u64;
-    fn duskstall_end_entity_message(
-        enrolment: *mut u8,
-        enrolment_len: usize,
-        message: *const u8,
-        message_len: usize,
-        good: u8,
-        accept: u8,
-        hash: *const u8,
-        hash_len: usize,
-        nonce: *const u8,
-        nonce_len: usize,
-        answer: *mut u8,
-        answer_len: usize,
-    ) -> u64;
-    fn duskstall_end_entity_time_out(
-        enrolment: *mut u8,
-        enrolment_len: usize,
-        answer: *mut u8,
-        answer_len: usize,
-    ) -> u64;
-}
-
 /// Reads a message: 0 and all fields filled, or the refusal's number with its
 /// offset and rule in the first two fields.
 pub fn read(message: &[u8], fields: &mut [u64]) -> u64 {
     // SAFETY: as said above the declarations.
     unsafe {
-        duskstall_read(
+        foreign::duskstall_read(
             message.as_ptr(),
             message.len(),
             fields.as_mut_ptr(),
@@ -126,7 +38,7 @@ pub fn read(message: &[u8], fields: &mut [u64]) -> u64 {
 /// rule.
 pub fn check(bytes: &[u8]) -> u64 {
     // SAFETY: as said above the declarations.
-    unsafe { duskstall_check(bytes.as_ptr(), bytes.len()) }
+    unsafe { foreign::duskstall_check(bytes.as_ptr(), bytes.len()) }
 }
 
 /// The size that the library has for a table (0), an enrolment (1), the
@@ -142,13 +54,13 @@ pub fn check(bytes: &[u8]) -> u64 {
 /// ```
 pub fn size(what: u8) -> u64 {
     // SAFETY: as said above the declarations.
-    unsafe { duskstall_size(what) }
+    unsafe { foreign::duskstall_size(what) }
 }
 
 /// The empty table.
 pub fn registrar_empty(table: &mut [u8]) -> u64 {
     // SAFETY: as said above the declarations.
-    unsafe { duskstall_registrar_empty(table.as_mut_ptr(), table.len()) }
+    unsafe { foreign::duskstall_registrar_empty(table.as_mut_ptr(), table.len()) }
 }
 
 /// A message to the registrar. `good` 0 is a bad verdict; else it is good and names `board`.
@@ -162,7 +74,7 @@ pub fn registrar_message(
 ) -> u64 {
     // SAFETY: as said above the declarations.
     unsafe {
-        duskstall_registrar_message(
+        foreign::duskstall_registrar_message(
             table.as_mut_ptr(),
             table.len(),
             message.as_ptr(),
@@ -187,7 +99,7 @@ pub fn registrar_issue(
 ) -> u64 {
     // SAFETY: as said above the declarations.
     unsafe {
-        duskstall_registrar_issue(
+        foreign::duskstall_registrar_issue(
             table.as_mut_ptr(),
             table.len(),
             id.as_ptr(),
@@ -206,7 +118,7 @@ pub fn registrar_issue(
 pub fn registrar_refuse(table: &mut [u8], id: &[u8], nonce: &[u8], answer: &mut [u8]) -> u64 {
     // SAFETY: as said above the declarations.
     unsafe {
-        duskstall_registrar_refuse(
+        foreign::duskstall_registrar_refuse(
             table.as_mut_ptr(),
             table.len(),
             id.as_ptr(),
@@ -223,7 +135,7 @@ pub fn registrar_refuse(table: &mut [u8], id: &[u8], nonce: &[u8], answer: &mut 
 pub fn registrar_lapse(table: &mut [u8], id: &[u8], answer: &mut [u8]) -> u64 {
     // SAFETY: as said above the declarations.
     unsafe {
-        duskstall_registrar_lapse(
+        foreign::duskstall_registrar_lapse(
             table.as_mut_ptr(),
             table.len(),
             id.as_ptr(),
@@ -238,7 +150,7 @@ pub fn registrar_lapse(table: &mut [u8], id: &[u8], answer: &mut [u8]) -> u64 {
 pub fn registrar_close(table: &mut [u8], id: &[u8], answer: &mut [u8]) -> u64 {
     // SAFETY: as said above the declarations.
     unsafe {
-        duskstall_registrar_close(
+        foreign::duskstall_registrar_close(
             table.as_mut_ptr(),
             table.len(),
             id.as_ptr(),
@@ -259,7 +171,7 @@ pub fn end_entity_start(
 ) -> u64 {
     // SAFETY: as said above the declarations.
     unsafe {
-        duskstall_end_entity_start(
+        foreign::duskstall_end_entity_start(
             enrolment.as_mut_ptr(),
             enrolment.len(),
             kind,
@@ -285,7 +197,7 @@ pub fn end_entity_message(
 ) -> u64 {
     // SAFETY: as said above the declarations.
     unsafe {
-        duskstall_end_entity_message(
+        foreign::duskstall_end_entity_message(
             enrolment.as_mut_ptr(),
             enrolment.len(),
             message.as_ptr(),
@@ -306,7 +218,7 @@ pub fn end_entity_message(
 pub fn end_entity_time_out(enrolment: &mut [u8], answer: &mut [u8]) -> u64 {
     // SAFETY: as said above the declarations.
     unsafe {
-        duskstall_end_entity_time_out(
+        foreign::duskstall_end_entity_time_out(
             enrolment.as_mut_ptr(),
             enrolment.len(),
             answer.as_mut_ptr(),
