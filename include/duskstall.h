@@ -26,17 +26,20 @@
  *   - It issues certificates and hashes them to 32 bytes: at the registrar for issue, at the end entity for a response.
  *   - It decides whether a request is granted and whether a certificate is accepted.
  *   - It encodes, protects and sends every outgoing message. certReqId is 0 in all of them.
+ *   - It hands each call the table or the enrolment as the last call on it left it: it puts no older copy back, empties
+ *     the table only at the beginning, and starts an enrolment only over bytes that no enrolment needs any more.
  *
- * If a verdict is good only for messages that the sender it names has issued, and no id or nonce is drawn twice, then,
- * whatever the line loses, repeats, reorders or makes up: an end entity that is Sure has its transaction Confirmed with
- * the same hash, one that is Declined has it Declined, until it is closed; and one that Failed never had it Confirmed.
+ * If it does, and a verdict is good only for messages that the sender it names has issued, and no id or nonce is drawn
+ * twice, then, whatever the line loses, repeats, reorders or makes up: an end entity that is Sure has its transaction
+ * Confirmed with the same hash, one that is Declined has it Declined, until it is closed; where a transaction is
+ * Confirmed, its end entity holds the same hash and is Sure, Confirming or Unsettled; one that Failed never had it so.
  *
  * MEMORY
  *
  * The caller owns every array and lends it for the call; no pointer is kept. An array is a pointer and its length. The
  * pointer is not null, even where the length is 0. An array that is written (table, enrolment, answer, fields) overlaps
  * no other array of the same call: copy an id out of the table or of the answer before it is handed in with them.
- * Between calls the bytes of a table or an enrolment may be copied, moved and stored.
+ * Between calls the bytes of a table or an enrolment may be moved and stored; the next call gets them as they are then.
  *
  * THREADS
  *
@@ -184,10 +187,10 @@ enum duskstall_failure {
 /* Why a message is refused by 2: the lowest rule that is broken at the lowest offset (ITU-T X.690, narrowed). */
 enum duskstall_rule {
     DUSKSTALL_RULE_TAG = 1,
-    DUSKSTALL_RULE_LENGTH = 2,  /* not the shortest form, or beyond the element around it */
+    DUSKSTALL_RULE_LENGTH = 2,  /* not xx, 81 xx or 82 xx xx, not the shortest, or beyond the element around it */
     DUSKSTALL_RULE_FORM = 3,    /* primitive or constructed where it must not be, or too deep */
     DUSKSTALL_RULE_CONTENT = 4, /* of a BOOLEAN, INTEGER, BIT STRING, NULL or OBJECT IDENTIFIER */
-    DUSKSTALL_RULE_GRAMMAR = 5  /* DER, but no PKIMessage */
+    DUSKSTALL_RULE_GRAMMAR = 5  /* an element that cannot stand here in a PKIMessage, or one that is missing */
 };
 
 /* ---- Kinds of messages: the number of the body's tag (RFC 9810 5.1.2) -------------------------------------------- */
@@ -422,7 +425,10 @@ uint64_t duskstall_size(uint8_t what);
  * changed, NO_STATE, NO_ROOM and, where an id, a nonce or a hash is handed in, BAD_LENGTH.
  */
 
-/* Writes the empty table: every slot Free. Returns DONE; or NO_STATE for another length, with nothing changed. */
+/*
+ * Writes the empty table: every slot Free. For the beginning only: transactions that the table held are lost. Returns
+ * DONE; or NO_STATE for another length, with nothing changed.
+ */
 uint64_t duskstall_registrar_empty(uint8_t *table, size_t table_len);
 
 /*
@@ -489,7 +495,7 @@ uint64_t duskstall_registrar_close(uint8_t *table, size_t table_len, const uint8
 /*
  * Starts an enrolment: it is Asked, and the request is to be sent.
  *
- *   enrolment    may hold anything before; left as it was if the start is refused
+ *   enrolment    may hold anything before, which is lost; left as it was if the start is refused
  *   kind         DUSKSTALL_IR, DUSKSTALL_CR, DUSKSTALL_P10CR or DUSKSTALL_KUR
  *   id, id_len   DUSKSTALL_ID_BYTES: fresh, the transactionID of all its messages
  *
@@ -504,8 +510,8 @@ uint64_t duskstall_end_entity_start(uint8_t *enrolment, size_t enrolment_len, ui
  *
  *   message, message_len   any bytes, any number of them
  *   good                   0: the protection is bad, or absent; else it was made with the registrar's key
- *   accept                 whether the host accepts the certificate in it, 0: no; used if a response brings one
- *   hash, hash_len         DUSKSTALL_HASH_BYTES: of that certificate; used if a response brings one
+ *   accept                 whether the host accepts the certificate in it, 0: no; used at a response of status 0 or 1
+ *   hash, hash_len         DUSKSTALL_HASH_BYTES: of that certificate; used at a response of status 0 or 1
  *
  * The response to its request, at Asked: status 2 gives Failed; 0 or 1 gives Confirming or Declining, and a certConf
  * with status 0 or 2 and the hash is to be sent. A pkiConf: Confirming becomes Sure, Declining Declined. An error with

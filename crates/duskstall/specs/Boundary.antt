@@ -38,6 +38,9 @@ boundaryFault state args room = cond state (cond args (cond room 0 253) 252) 251
 abbrev pub untouched : ℕ → (state answer : List ℕ) → Crossing
 untouched k s a = record { code = k; state = s; answer = a }
 
+abbrev pub unlessFaulty : ℕ → (state answer : List ℕ) → Crossing → Crossing
+unlessFaulty k s a x = cond (eqb k 0) x (untouched k s a)
+
 -- ## The registrar
 
 abbrev pub registrarAnswerBytes : ℕ
@@ -46,14 +49,15 @@ registrarAnswerBytes = 103
 abbrev pub packRegistrarAnswer : RegistrarAnswer → List ℕ → List ℕ
 packRegistrarAnswer a s = packAt registrarHeadBytes outgoingBytes (packOutgoing (a .outgoing)) (packAt 0 registrarHeadBytes (packRegistrarHead a) s)
 
-abbrev pub registrarAnswered : RegistrarAnswer → (state answer : List ℕ) → Crossing
-registrarAnswered a s b = record { code = outcomeNumber (a .outcome); state = packTableIn (a .table) s; answer = packRegistrarAnswer a b }
+abbrev pub registrarWritten : RegistrarAnswer → (state answer : List ℕ) → Crossing
+registrarWritten a s b = record { code = outcomeNumber (a .outcome); state = packTableIn (a .table) s; answer = packRegistrarAnswer a b }
+
+unfoldable pub registrarAnswered : (ok args : Bool) → RegistrarAnswer → (state answer : List ℕ) → Crossing
+registrarAnswered ok args a s b = unlessFaulty (boundaryFault ok args (leb registrarAnswerBytes (length b))) s b (registrarWritten a s b)
 
 -- a call of the registrar on the table that the bytes stand for
-unfoldable pub registrarCrossing : (args : Bool) → (TransactionTable → RegistrarAnswer) → (state answer : List ℕ) → Crossing
-registrarCrossing args f s b =
-    let k : ℕ = boundaryFault (unpackTable s .ok) args (leb registrarAnswerBytes (length b)) in
-    cond (eqb k 0) (registrarAnswered (f (unpackTable s .table)) s b) (untouched k s b)
+abbrev pub registrarCrossing : (args : Bool) → (TransactionTable → RegistrarAnswer) → (state answer : List ℕ) → Crossing
+registrarCrossing args f s b = registrarAnswered (unpackTable s .ok) args (f (unpackTable s .table)) s b
 
 -- ## The end entity
 
@@ -63,24 +67,23 @@ endEntityAnswerBytes = 102
 abbrev pub packEndEntityAnswer : EndEntityAnswer → List ℕ → List ℕ
 packEndEntityAnswer a s = packAt endEntityHeadBytes outgoingBytes (packOutgoing (a .outgoing)) (packAt 0 endEntityHeadBytes (packEndEntityHead a) s)
 
-abbrev pub endEntityAnswered : EndEntityAnswer → (state answer : List ℕ) → Crossing
-endEntityAnswered a s b = record { code = outcomeNumber (a .outcome); state = packEnrolmentIn (a .enrolment) s; answer = packEndEntityAnswer a b }
+abbrev pub endEntityWritten : EndEntityAnswer → (state answer : List ℕ) → Crossing
+endEntityWritten a s b = record { code = outcomeNumber (a .outcome); state = packEnrolmentIn (a .enrolment) s; answer = packEndEntityAnswer a b }
+
+unfoldable pub endEntityAnswered : (ok args : Bool) → EndEntityAnswer → (state answer : List ℕ) → Crossing
+endEntityAnswered ok args a s b = unlessFaulty (boundaryFault ok args (leb endEntityAnswerBytes (length b))) s b (endEntityWritten a s b)
 
 -- a call of an end entity on the enrolment that the bytes stand for
-unfoldable pub endEntityCrossing : (args : Bool) → (Enrolment → EndEntityAnswer) → (state answer : List ℕ) → Crossing
-endEntityCrossing args f s b =
-    let k : ℕ = boundaryFault (unpackEnrolment s .ok) args (leb endEntityAnswerBytes (length b)) in
-    cond (eqb k 0) (endEntityAnswered (f (unpackEnrolment s .enrolment)) s b) (untouched k s b)
+abbrev pub endEntityCrossing : (args : Bool) → (Enrolment → EndEntityAnswer) → (state answer : List ℕ) → Crossing
+endEntityCrossing args f s b = endEntityAnswered (unpackEnrolment s .ok) args (f (unpackEnrolment s .enrolment)) s b
 
 -- a start needs only room for an enrolment; where it is refused, the bytes stay
-abbrev pub startAnswered : EndEntityAnswer → (state answer : List ℕ) → Crossing
-startAnswered a s b =
+abbrev pub startWritten : EndEntityAnswer → (state answer : List ℕ) → Crossing
+startWritten a s b =
     record { code = outcomeNumber (a .outcome); state = cond (eqb (outcomeNumber (a .outcome)) 0) (packEnrolmentIn (a .enrolment) s) s; answer = packEndEntityAnswer a b }
 
 unfoldable pub startCrossing : (args : Bool) → EndEntityAnswer → (state answer : List ℕ) → Crossing
-startCrossing args a s b =
-    let k : ℕ = boundaryFault (eqb (length s) 82) args (leb endEntityAnswerBytes (length b)) in
-    cond (eqb k 0) (startAnswered a s b) (untouched k s b)
+startCrossing args a s b = unlessFaulty (boundaryFault (eqb (length s) 82) args (leb endEntityAnswerBytes (length b))) s b (startWritten a s b)
 
 -- ## What is handed in
 

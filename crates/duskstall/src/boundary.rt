@@ -5,6 +5,7 @@ use packed::answer::pack_end_entity_head;
 use packed::answer::pack_registrar_head;
 use packed::arrays::Unpacked16;
 use packed::arrays::Unpacked32;
+use packed::enrolment::ENROLMENT_BYTES;
 use packed::enrolment::pack_enrolment;
 use packed::outgoing::OUTGOING_BYTES;
 use packed::outgoing::pack_outgoing;
@@ -22,7 +23,7 @@ ghost use mathlib.Core.Bool.{_&&_};
 ghost use Rattle.packed.specs.Table.{packTableIn};
 ghost use Rattle.packed.specs.Enrolment.{packEnrolmentIn};
 ghost use Rattle.packed.specs.Answer.{outcomeNumber};
-ghost use Rattle.duskstall.specs.Boundary.{Crosses, boundaryFault, registrarAnswered, endEntityAnswered, packEndEntityAnswer, startAnswered, yes, verdictOf};
+ghost use Rattle.duskstall.specs.Boundary.{Crosses, boundaryFault, registrarAnswered, packEndEntityAnswer, endEntityAnswered, startCrossing, yes, verdictOf};
 
 pub(crate) const REGISTRAR_ANSWER: usize = REGISTRAR_HEAD_BYTES + OUTGOING_BYTES;
 
@@ -50,10 +51,10 @@ pub(crate) fn hash_from(u: Unpacked32) -> Hash
 }
 
 // The lowest number that applies: 251 no state, 252 a length of what is handed in, 253 no room; 0 none.
-pub(crate) fn boundary_fault(state: bool, args: bool, room: bool) -> u64
-    ensures { λ r. ⌜ r ≡ boundaryFault state args room ⌝ }
+fn boundary_fault(ok: bool, args: bool, room: bool) -> u64
+    ensures { λ r. ⌜ r ≡ boundaryFault ok args room ⌝ }
 {
-    if state {
+    if ok {
         if args {
             if room {
                 return 0;
@@ -96,10 +97,21 @@ fn outcome_code(o: Outcome) -> u64
     }
 }
 
-// The registrar's answer into the lent bytes.
-pub(crate) fn registrar_answered(table: &mut [u8], answer: &mut [u8], a: RegistrarAnswer) -> u64
-    ensures { λ r. ⌜ Crosses r (now (table .exit)) (now (answer .exit)) (registrarAnswered a (now (table .entry)) (now (answer .entry))) ⌝ }
+// The registrar's answer into the lent bytes, unless these are at fault. `ok`: they were a table; `args`: what was handed in has its
+// lengths.
+pub(crate) fn registrar_answered(
+    table: &mut [u8],
+    answer: &mut [u8],
+    ok: bool,
+    args: bool,
+    a: RegistrarAnswer,
+) -> u64
+    ensures { λ r. ⌜ Crosses r (now (table .exit)) (now (answer .exit)) (registrarAnswered ok args a (now (table .entry)) (now (answer .entry))) ⌝ }
 {
+    let fault = boundary_fault(ok, args, REGISTRAR_ANSWER <= answer.len());
+    if fault != 0 {
+        return fault;
+    }
     let outcome = a.outcome;
     pack_table(table, a.table);
     pack_registrar_head(answer, a);
@@ -115,29 +127,46 @@ fn put_answer(answer: &mut [u8], a: EndEntityAnswer)
     pack_outgoing(answer, END_ENTITY_HEAD_BYTES, a.outgoing);
 }
 
-// The end entity's answer into the lent bytes.
+// The end entity's answer into the lent bytes, unless these are at fault. `ok`: they were an enrolment.
 pub(crate) fn end_entity_answered(
     enrolment: &mut [u8],
     answer: &mut [u8],
+    ok: bool,
+    args: bool,
     a: EndEntityAnswer,
 ) -> u64
-    ensures { λ r. ⌜ Crosses r (now (enrolment .exit)) (now (answer .exit)) (endEntityAnswered a (now (enrolment .entry)) (now (answer .entry))) ⌝ }
+    ensures { λ r. ⌜ Crosses r (now (enrolment .exit)) (now (answer .exit)) (endEntityAnswered ok args a (now (enrolment .entry)) (now (answer .entry))) ⌝ }
 {
+    let fault = boundary_fault(ok, args, END_ENTITY_ANSWER <= answer.len());
+    if fault != 0 {
+        return fault;
+    }
     let outcome = a.outcome;
     pack_enrolment(enrolment, a.enrolment);
     put_answer(answer, a);
     outcome_code(outcome)
 }
 
-// A start's answer into the lent bytes: a refused one gives no enrolment.
-pub(crate) fn start_answered(enrolment: &mut [u8], answer: &mut [u8], a: EndEntityAnswer) -> u64
-    ensures { λ r. ⌜ Crosses r (now (enrolment .exit)) (now (answer .exit)) (startAnswered a (now (enrolment .entry)) (now (answer .entry))) ⌝ }
+// A start's answer, likewise: the bytes only need an enrolment's length, and a refused start gives no enrolment.
+pub(crate) fn start_answered(
+    enrolment: &mut [u8],
+    answer: &mut [u8],
+    args: bool,
+    a: EndEntityAnswer,
+) -> u64
+    ensures { λ r. ⌜ Crosses r (now (enrolment .exit)) (now (answer .exit)) (startCrossing args a (now (enrolment .entry)) (now (answer .entry))) ⌝ }
 {
+    let room = END_ENTITY_ANSWER <= answer.len();
+    let fault = boundary_fault(enrolment.len() == ENROLMENT_BYTES, args, room);
+    if fault != 0 {
+        return fault;
+    }
     let outcome = a.outcome;
     let code = outcome_code(outcome);
-    if code == 0 {
-        return end_entity_answered(enrolment, answer, a);
-    }
     put_answer(answer, a);
+    if code == 0 {
+        pack_enrolment(enrolment, a.enrolment);
+        return code;
+    }
     code
 }

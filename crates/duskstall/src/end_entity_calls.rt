@@ -1,7 +1,5 @@
 // The end entity's calls over lent bytes.
-use crate::boundary::END_ENTITY_ANSWER;
 use crate::boundary::both;
-use crate::boundary::boundary_fault;
 use crate::boundary::end_entity_answered;
 use crate::boundary::hash_from;
 use crate::boundary::id_from;
@@ -13,7 +11,6 @@ use end_entity::start;
 use end_entity::time_out;
 use packed::arrays::unpack_16;
 use packed::arrays::unpack_32;
-use packed::enrolment::ENROLMENT_BYTES;
 use packed::enrolment::unpack_enrolment;
 use protocol::EndEntityInput;
 ghost use mathlib.Core.Path.{_≡_};
@@ -35,16 +32,8 @@ pub extern "C" fn duskstall_end_entity_start(
 {
     let i = unpack_16(id);
     let n = unpack_16(nonce);
-    let fault = boundary_fault(
-        enrolment.len() == ENROLMENT_BYTES,
-        both(i.ok, n.ok),
-        END_ENTITY_ANSWER <= answer.len(),
-    );
-    if fault != 0 {
-        return fault;
-    }
     let a = start(kind, id_from(i), nonce_from(n));
-    start_answered(enrolment, answer, a)
+    start_answered(enrolment, answer, both(i.ok, n.ok), a)
 }
 
 // A message. `good`: the registrar's key checked; `accept`: the host accepts the certificate, whose hash is `hash`.
@@ -63,17 +52,14 @@ pub extern "C" fn duskstall_end_entity_message(
     let x = unpack_enrolment(enrolment);
     let h = unpack_32(hash);
     let n = unpack_16(nonce);
-    let fault = boundary_fault(x.ok, both(h.ok, n.ok), END_ENTITY_ANSWER <= answer.len());
-    if fault != 0 {
-        return fault;
-    }
     let input = EndEntityInput {
         good: yes(good),
         accept: yes(accept),
         hash: hash_from(h),
         nonce: nonce_from(n),
     };
-    end_entity_answered(enrolment, answer, message(x.enrolment, bytes, input))
+    let a = message(x.enrolment, bytes, input);
+    end_entity_answered(enrolment, answer, x.ok, both(h.ok, n.ok), a)
 }
 
 // The host waited long enough.
@@ -82,9 +68,6 @@ pub extern "C" fn duskstall_end_entity_time_out(enrolment: &mut [u8], answer: &m
     ensures { λ r. ⌜ Crosses r (now (enrolment .exit)) (now (answer .exit)) (endEntityCrossing true endEntityTimeOut (now (enrolment .entry)) (now (answer .entry))) ⌝ }
 {
     let x = unpack_enrolment(enrolment);
-    let fault = boundary_fault(x.ok, true, END_ENTITY_ANSWER <= answer.len());
-    if fault != 0 {
-        return fault;
-    }
-    end_entity_answered(enrolment, answer, time_out(x.enrolment))
+    let a = time_out(x.enrolment);
+    end_entity_answered(enrolment, answer, x.ok, true, a)
 }

@@ -16,7 +16,7 @@ ghost use Rattle.fields.specs.Fields.{checkAnswer, readAnswer, readFields};
 ghost use Rattle.duskstall.specs.Sizes.{sizeOf};
 
 // Whether all of `bytes` is whole DER elements, at most 16 deep. 0: yes; else the first fault's offset times 8 plus its rule;
-// 7, which is no rule, where `bytes` is longer than any message could be.
+// 7, which is no rule, where there are more than 4,294,967,295 bytes.
 #[no_mangle]
 pub extern "C" fn duskstall_check(bytes: &[u8]) -> u64
     ensures { λ r. ⌜ r ≡ checkAnswer (now (bytes .entry)) ⌝ }

@@ -1,7 +1,5 @@
 // The registrar's calls over lent bytes.
-use crate::boundary::REGISTRAR_ANSWER;
 use crate::boundary::both;
-use crate::boundary::boundary_fault;
 use crate::boundary::hash_from;
 use crate::boundary::id_from;
 use crate::boundary::nonce_from;
@@ -53,15 +51,12 @@ pub extern "C" fn duskstall_registrar_message(
 {
     let t = unpack_table(table);
     let n = unpack_16(nonce);
-    let fault = boundary_fault(t.ok, n.ok, REGISTRAR_ANSWER <= answer.len());
-    if fault != 0 {
-        return fault;
-    }
     let input = RegistrarInput {
         verdict: verdict_of(good, board),
         nonce: nonce_from(n),
     };
-    registrar_answered(table, answer, message(t.table, bytes, input))
+    let a = message(t.table, bytes, input);
+    registrar_answered(table, answer, t.ok, n.ok, a)
 }
 
 // issue
@@ -80,12 +75,8 @@ pub extern "C" fn duskstall_registrar_issue(
     let n = unpack_16(nonce);
     let h = unpack_32(hash);
     let args = both(i.ok, both(n.ok, h.ok));
-    let fault = boundary_fault(t.ok, args, REGISTRAR_ANSWER <= answer.len());
-    if fault != 0 {
-        return fault;
-    }
     let a = issue(t.table, id_from(i), nonce_from(n), hash_from(h));
-    registrar_answered(table, answer, a)
+    registrar_answered(table, answer, t.ok, args, a)
 }
 
 // refuse
@@ -101,12 +92,8 @@ pub extern "C" fn duskstall_registrar_refuse(
     let t = unpack_table(table);
     let i = unpack_16(id);
     let n = unpack_16(nonce);
-    let fault = boundary_fault(t.ok, both(i.ok, n.ok), REGISTRAR_ANSWER <= answer.len());
-    if fault != 0 {
-        return fault;
-    }
     let a = refuse(t.table, id_from(i), nonce_from(n));
-    registrar_answered(table, answer, a)
+    registrar_answered(table, answer, t.ok, both(i.ok, n.ok), a)
 }
 
 // lapse
@@ -116,11 +103,8 @@ pub extern "C" fn duskstall_registrar_lapse(table: &mut [u8], id: &[u8], answer:
 {
     let t = unpack_table(table);
     let i = unpack_16(id);
-    let fault = boundary_fault(t.ok, i.ok, REGISTRAR_ANSWER <= answer.len());
-    if fault != 0 {
-        return fault;
-    }
-    registrar_answered(table, answer, lapse(t.table, id_from(i)))
+    let a = lapse(t.table, id_from(i));
+    registrar_answered(table, answer, t.ok, i.ok, a)
 }
 
 // close
@@ -130,9 +114,6 @@ pub extern "C" fn duskstall_registrar_close(table: &mut [u8], id: &[u8], answer:
 {
     let t = unpack_table(table);
     let named = unpack_16(id);
-    let fault = boundary_fault(t.ok, named.ok, REGISTRAR_ANSWER <= answer.len());
-    if fault != 0 {
-        return fault;
-    }
-    registrar_answered(table, answer, close(t.table, id_from(named)))
+    let a = close(t.table, id_from(named));
+    registrar_answered(table, answer, t.ok, named.ok, a)
 }

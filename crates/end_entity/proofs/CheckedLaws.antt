@@ -24,8 +24,9 @@ use Rattle.protocol.specs.Refusals.{Row, Check, check, pass, notSixteen}
 use Rattle.protocol.specs.EndEntityRows.{endEntityRows}
 use Rattle.protocol.specs.EndEntity.{enrolmentRefused, enrolmentUnread, enrolmentMoved, inState, afterRefusal, confirming, endEntityChecked, endEntityRead, endEntityMessage}
 use Rattle.protocol.proofs.Tests.{true-false, not-false, passes}
-use Rattle.incoming.specs.Incoming.{numberOf, sixteenOf, faultOf}
-use Rattle.incoming.proofs.Laws.{copy-is}
+use Rattle.parts.specs.Parts.{sixteenOf}
+use Rattle.incoming.specs.Incoming.{numberOf, faultOf}
+use Rattle.parts.proofs.Laws.{copy-is}
 use Rattle.incoming.proofs.RowLaws as row-laws
 use Rattle.incoming.proofs.RowLaws.{allPositive}
 

@@ -20,7 +20,7 @@ fn small(x: u8) -> u64
 }
 
 // Whether all of `bytes` is whole DER elements, at most 16 deep. 0: yes; else the first fault's offset times 8 plus its rule;
-// 7, which is no rule, where `bytes` is longer than any message could be.
+// 7, which is no rule, where there are more than 4,294,967,295 bytes.
 pub fn check_number(bytes: &[u8]) -> u64
     ensures { λ r. ⌜ r ≡ checkAnswer (now (bytes .entry)) ⌝ }
 {

@@ -98,6 +98,11 @@ unfolding signed32 shiftIn
 signed-none [] e = refl
 signed-none (x ∷ s) e = absurd (omega arith)
 
+-- the numbers that 01 prints beside two of its dozen: -1, as 32 bits of two's complement, and 128
+pub two-numbers : (signed32 (255 ∷ []) ≡ 4294967295) × (signed32 (0 ∷ 128 ∷ []) ≡ 128)
+unfolding signed32 shiftIn
+two-numbers = (refl, refl)
+
 -- ## A step forward
 
 -- from c to r the cursor went on under the same end, if all is right

@@ -1,12 +1,12 @@
 // The rows of 01's table that both ends share, and the bit that goes with each number.
-use crate::parts::is_present;
-use crate::parts::not_sixteen;
 use grammar::Entry;
 use grammar::Header;
 use grammar::Message;
 use grammar::Offset;
 use message::Fault;
 use message::Reading;
+use parts::is_present;
+use parts::not_sixteen;
 use protocol::FailureInfo;
 ghost use mathlib.Core.Path.{_≡_};
 ghost use mathlib.Core.Bool.{not, cond, _&&_, _||_};

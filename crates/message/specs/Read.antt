@@ -41,6 +41,6 @@ readingOf m = cond (eqb (length m) 0 || ltb maxMessage (length m)) badLength (lo
 abbrev pub spanBytes : List ℕ → Span → List ℕ
 spanBytes m s = partOf m (s .start .0) (s .len)
 
--- the content length of the protected part, the DER SEQUENCE of header and body (RFC 9810 5.1.3); 0 where the sum is no length of a message
+-- the content length of the protected part, the DER SEQUENCE of header and body (RFC 9810 5.1.3); 0 where one of the two is longer than a message may be
 unfoldable pub protectedLength : Message → ℕ
 protectedLength m = cond (ltb maxMessage (m .header .len) || ltb maxMessage (m .body .len)) 0 (m .header .len + m .body .len)

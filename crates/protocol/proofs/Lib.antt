@@ -1,5 +1,4 @@
 pub mod Tests
-pub mod CodeLaws
 pub mod RegistrarStates
 pub mod EnrolmentStates
 pub mod Lookup

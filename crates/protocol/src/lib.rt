@@ -1,7 +1,6 @@
 // The types that the registrar (01's desk) and the end entities (01's board ends) share.
 use message::Fault;
 ghost use mathlib.Core.Path.{_≡_};
-ghost use Rattle.protocol.specs.Bytes.{sameBytes, sameId, sameNonce, sameHash};
 ghost use Rattle.protocol.specs.Table.{emptyTable};
 ghost use Rattle.protocol.specs.Outgoing.{silent};
 
@@ -18,73 +17,14 @@ pub struct TransactionId {
     pub bytes: [u8; TransactionTable::ID_BYTES],
 }
 
-impl TransactionId {
-    // The one equality of ids.
-    pub fn same(self, other: TransactionId) -> bool
-        ensures { λ r. ⌜ r ≡ sameId self other ⌝ }
-    {
-        let a = self.bytes;
-        let b = other.bytes;
-        same16(a, b)
-    }
-}
-
 // A senderNonce or a recipNonce.
 pub struct Nonce {
     pub bytes: [u8; 16],
 }
 
-impl Nonce {
-    // The one equality of nonces.
-    pub fn same(self, other: Nonce) -> bool
-        ensures { λ r. ⌜ r ≡ sameNonce self other ⌝ }
-    {
-        let own = self.bytes;
-        let given = other.bytes;
-        same16(own, given)
-    }
-}
-
 // The hash of a certificate, as the host works it out.
 pub struct Hash {
     pub bytes: [u8; 32],
-}
-
-impl Hash {
-    // The one equality of hashes.
-    pub fn same(self, other: Hash) -> bool
-        ensures { λ r. ⌜ r ≡ sameHash self other ⌝ }
-    {
-        let a = self.bytes;
-        let b = other.bytes;
-        same32(a, b)
-    }
-}
-
-fn same16(a: [u8; 16], b: [u8; 16]) -> bool
-    ensures { λ r. ⌜ r ≡ sameBytes a b ⌝ }
-{
-    let mut i: usize = 0;
-    while i < 16 {
-        if a[i] != b[i] {
-            return false;
-        }
-        i += 1;
-    }
-    true
-}
-
-fn same32(a: [u8; 32], b: [u8; 32]) -> bool
-    ensures { λ r. ⌜ r ≡ sameBytes a b ⌝ }
-{
-    let mut i: usize = 0;
-    while i < 32 {
-        if a[i] != b[i] {
-            return false;
-        }
-        i += 1;
-    }
-    true
 }
 
 // The protection of a message (01's verdict): bad, or good with the board whose key checked.
@@ -176,7 +116,7 @@ pub enum EnrolmentState {
 }
 
 // An enrolment at an end entity (01's board record): `last` is the last nonce it sent, `taken` the senderNonce of the
-// response it took. What is not set is zero.
+// response that its certConf answers. What is not set is zero.
 pub struct Enrolment {
     pub id: TransactionId,
     pub kind: u8,

@@ -35,8 +35,9 @@ use Rattle.protocol.specs.Registrar.{boardNamed, doneQuietly, doneSending, sett
 use Rattle.protocol.proofs.Tests.{passes}
 use Rattle.protocol.specs.Promises.{Applies}
 use Rattle.protocol.proofs.Rows.{least, stops}
-use Rattle.incoming.specs.Incoming.{sixteenOf, numberOf, faultOf}
-use Rattle.incoming.proofs.Laws.{copy-is}
+use Rattle.parts.specs.Parts.{sixteenOf}
+use Rattle.incoming.specs.Incoming.{numberOf, faultOf}
+use Rattle.parts.proofs.Laws.{copy-is}
 use Rattle.incoming.proofs.RowLaws.{check-append, orElse, stops-at, passes-all, allPositive}
 use Rattle.registrar.specs.Steps.{heldAt, withAt, laterRows, foundBy, refusal, confirmation, repeated, Copied}
 use Rattle.registrar.proofs.SlotLaws.{free-set, slot-set, getD-past}

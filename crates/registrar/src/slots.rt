@@ -1,5 +1,6 @@
 // The table's slots: which one an id names, the lowest free one, and the table with one of them changed.
 use crate::states::is_free;
+use parts::same_id;
 use protocol::Board;
 use protocol::Hash;
 use protocol::Nonce;
@@ -21,7 +22,7 @@ fn is_for(id: TransactionId, t: Transaction) -> bool
         return false;
     }
     let own = t.id;
-    own.same(id)
+    same_id(own, id)
 }
 
 // The slot in use that has the id; the number of slots where there is none.

@@ -1,18 +1,22 @@
--- The bytes are faulty, or the call's answer goes back into them.
-use mathlib.Core.Bool.{Bool, _&&_}
-use mathlib.Core.Path.{_∙_, ap}
+-- What the bytes stand for goes into the call, and its answer goes back into them.
 use borrow.Author.Needs.{needs}
-use lib.ListN.{length}
-use lib.Dec.{leb}
-use Rattle.protocol.specs.declared.TransactionTable.{TransactionTable}
-use Rattle.protocol.specs.declared.TransactionId.{TransactionId}
-use Rattle.protocol.specs.declared.Nonce.{Nonce}
-use Rattle.protocol.specs.declared.Hash.{Hash}
-use Rattle.protocol.specs.Registrar.{registrarIssue}
-use Rattle.duskstall.specs.Boundary.{boundaryFault}
-use Rattle.duskstall.proofs.Crossings.{registrar-faulty, registrar-through}
 use Rattle.duskstall.proofs.registrar_calls.duskstall_registrar_issue.Statement.{statement}
 use Rattle.duskstall.proofs.registrar_calls.duskstall_registrar_issue.Tie as tie
+
+returns : tie.Need-returns
+returns c =
+    let last = c .before .before .before .before in
+    let call = last .before .before .before in
+    let hash = call .before in
+    let nonce = hash .before in
+    let id = nonce .before in
+    let all = id .before in
+    let both = all .before in
+    let hash-bytes = both .before in
+    let nonce-bytes = hash-bytes .before in
+    let id-bytes = nonce-bytes .before in
+    let table = id-bytes .before in
+    rw (← table .unpack-table .ensures, ← id-bytes .unpack-16 .ensures, ← nonce-bytes .unpack-162 .ensures, ← hash-bytes .unpack-32 .ensures, ← id .id-from .ensures, ← nonce .nonce-from .ensures, ← hash .hash-from .ensures, ← call .issue .ensures, ← both .both .ensures, ← all .both2 .ensures) (last .registrar-answered .ensures)
 
 pub duskstall-registrar-issue-spec : {M : Type 1} → statement M
 duskstall-registrar-issue-spec = tie.close (tie.spec
@@ -23,13 +27,10 @@ duskstall-registrar-issue-spec = tie.close (tie.spec
     (λ c κs. search needs)
     (λ c κs. search needs)
     (λ c κs. search needs)
-    (λ c. search needs)
-    (λ c. rw (← c .before .before .before .before .before .before .unpack-16 .ensures, ← c .before .before .before .before .before .unpack-162 .ensures, ← c .before .before .before .before .unpack-32 .ensures) (registrar-faulty (c .before .before .before .before .before .before .before .before .before .before .before .before .before .before .args .table .now) (c .before .before .before .before .before .before .before .before .before .before .before .before .before .before .args .answer .now) (c .before .before .before .before .before .before .before .unpack-table .result) (c .before .before .before .before .before .before .before .unpack-table .ensures) ((c .before .before .before .before .before .before .unpack-16 .result) .ok && ((c .before .before .before .before .before .unpack-162 .result) .ok && (c .before .before .before .before .unpack-32 .result) .ok)) (λ (t : TransactionTable). registrarIssue t (record { bytes = (c .before .before .before .before .before .before .unpack-16 .result) .bytes }) (record { bytes = (c .before .before .before .before .before .unpack-162 .result) .bytes }) (record { bytes = (c .before .before .before .before .unpack-32 .result) .bytes })) (c .before .boundary-fault .result) (c .before .boundary-fault .ensures ∙ ap (λ (z : Bool). boundaryFault (c .before .before .before .before .before .before .before .unpack-table .result .ok) z (leb 103 (length (c .before .before .before .before .before .before .before .before .before .before .before .before .before .before .args .answer .now)))) ((c .before .before .both2 .ensures) ∙ ap (λ (z : Bool). (c .before .before .before .before .before .before .unpack-16 .result) .ok && z) (c .before .before .before .both .ensures))) (c .if1 .taken)))
-    (λ c κs. search needs)
     (λ c κs. search needs)
     (λ c κs. search needs)
     (λ c κs. search needs)
     (λ c κs. search needs)
     (λ c. search needs)
     (λ c. search needs)
-    (λ c. rw (← c .before .before .before .before .before .before .before .before .before .before .before .before .before .before .before .before .before .unpack-16 .ensures, ← c .before .before .before .before .before .before .before .before .before .before .before .before .before .before .before .before .unpack-162 .ensures, ← c .before .before .before .before .before .before .before .before .before .before .before .before .before .before .before .unpack-32 .ensures) (registrar-through (c .before .before .before .before .before .before .before .before .before .before .before .before .before .before .before .before .before .before .before .before .before .before .before .before .before .args .table .now) (c .before .before .before .before .before .before .before .before .before .before .before .before .before .before .before .before .before .before .before .before .before .before .before .before .before .args .answer .now) (c .before .before .before .before .before .before .before .before .before .before .before .before .before .before .before .before .before .before .unpack-table .result) (c .before .before .before .before .before .before .before .before .before .before .before .before .before .before .before .before .before .before .unpack-table .ensures) ((c .before .before .before .before .before .before .before .before .before .before .before .before .before .before .before .before .before .unpack-16 .result) .ok && ((c .before .before .before .before .before .before .before .before .before .before .before .before .before .before .before .before .unpack-162 .result) .ok && (c .before .before .before .before .before .before .before .before .before .before .before .before .before .before .before .unpack-32 .result) .ok)) (λ (t : TransactionTable). registrarIssue t (record { bytes = (c .before .before .before .before .before .before .before .before .before .before .before .before .before .before .before .before .before .unpack-16 .result) .bytes }) (record { bytes = (c .before .before .before .before .before .before .before .before .before .before .before .before .before .before .before .before .unpack-162 .result) .bytes }) (record { bytes = (c .before .before .before .before .before .before .before .before .before .before .before .before .before .before .before .unpack-32 .result) .bytes })) (c .before .before .before .before .before .before .before .before .before .before .before .before .boundary-fault .result) (c .before .before .before .before .before .before .before .before .before .before .before .before .boundary-fault .ensures ∙ ap (λ (z : Bool). boundaryFault (c .before .before .before .before .before .before .before .before .before .before .before .before .before .before .before .before .before .before .unpack-table .result .ok) z (leb 103 (length (c .before .before .before .before .before .before .before .before .before .before .before .before .before .before .before .before .before .before .before .before .before .before .before .before .before .args .answer .now)))) ((c .before .before .before .before .before .before .before .before .before .before .before .before .before .both2 .ensures) ∙ ap (λ (z : Bool). (c .before .before .before .before .before .before .before .before .before .before .before .before .before .before .before .before .before .unpack-16 .result) .ok && z) (c .before .before .before .before .before .before .before .before .before .before .before .before .before .before .both .ensures))) (c .before .before .before .before .before .before .before .before .before .before .before .if1 .left) (c .before .before .before .before .before .before .before .issue .result) ((c .before .before .before .before .before .before .before .issue .ensures) ∙ ap (λ (i : TransactionId). registrarIssue ((c .before .before .before .before .before .before .before .before .before .before .before .before .before .before .before .before .before .before .unpack-table .result) .table) i (c .before .before .before .before .before .before .before .before .before .nonce-from .result) (c .before .before .before .before .before .before .before .before .hash-from .result)) (c .before .before .before .before .before .before .before .before .before .before .id-from .ensures) ∙ ap (λ (n : Nonce). registrarIssue ((c .before .before .before .before .before .before .before .before .before .before .before .before .before .before .before .before .before .before .unpack-table .result) .table) (record { bytes = (c .before .before .before .before .before .before .before .before .before .before .before .before .before .before .before .before .before .unpack-16 .result) .bytes }) n (c .before .before .before .before .before .before .before .before .hash-from .result)) (c .before .before .before .before .before .before .before .before .before .nonce-from .ensures) ∙ ap (λ (h : Hash). registrarIssue ((c .before .before .before .before .before .before .before .before .before .before .before .before .before .before .before .before .before .before .unpack-table .result) .table) (record { bytes = (c .before .before .before .before .before .before .before .before .before .before .before .before .before .before .before .before .before .unpack-16 .result) .bytes }) (record { bytes = (c .before .before .before .before .before .before .before .before .before .before .before .before .before .before .before .before .unpack-162 .result) .bytes }) h) (c .before .before .before .before .before .before .before .before .hash-from .ensures)) _ _ _ (c .before .before .before .before .registrar-answered .ensures))))
+    returns)

@@ -1,23 +1,24 @@
--- The bytes are faulty, or the call's answer goes back into them.
-use mathlib.Core.Path.{_∙_, ap}
+-- What the bytes stand for goes into the call, and its answer goes back into them.
 use borrow.Author.Needs.{needs}
-use Rattle.protocol.specs.declared.TransactionTable.{TransactionTable}
-use Rattle.protocol.specs.declared.TransactionId.{TransactionId}
-use Rattle.protocol.specs.Registrar.{registrarLapse}
-use Rattle.duskstall.proofs.Crossings.{registrar-faulty, registrar-through}
 use Rattle.duskstall.proofs.registrar_calls.duskstall_registrar_lapse.Statement.{statement}
 use Rattle.duskstall.proofs.registrar_calls.duskstall_registrar_lapse.Tie as tie
+
+returns : tie.Need-returns
+returns c =
+    let last = c .before .before .before .before in
+    let call = last .before .before .before in
+    let id = call .before in
+    let id-bytes = id .before in
+    let table = id-bytes .before in
+    rw (← table .unpack-table .ensures, ← id-bytes .unpack-16 .ensures, ← id .id-from .ensures, ← call .lapse .ensures) (last .registrar-answered .ensures)
 
 pub duskstall-registrar-lapse-spec : {M : Type 1} → statement M
 duskstall-registrar-lapse-spec = tie.close (tie.spec
     (λ c κs. search needs)
     (λ c κs. search needs)
     (λ c κs. search needs)
-    (λ c. search needs)
-    (λ c. rw (← c .before .before .unpack-16 .ensures) (registrar-faulty (c .before .before .before .before .before .before .before .before .args .table .now) (c .before .before .before .before .before .before .before .before .args .answer .now) (c .before .before .before .unpack-table .result) (c .before .before .before .unpack-table .ensures) ((c .before .before .unpack-16 .result) .ok) (λ (t : TransactionTable). registrarLapse t (record { bytes = (c .before .before .unpack-16 .result) .bytes })) (c .before .boundary-fault .result) (c .before .boundary-fault .ensures) (c .if1 .taken)))
-    (λ c κs. search needs)
     (λ c κs. search needs)
     (λ c κs. search needs)
     (λ c. search needs)
     (λ c. search needs)
-    (λ c. rw (← c .before .before .before .before .before .before .before .before .before .before .before .unpack-16 .ensures) (registrar-through (c .before .before .before .before .before .before .before .before .before .before .before .before .before .before .before .before .before .args .table .now) (c .before .before .before .before .before .before .before .before .before .before .before .before .before .before .before .before .before .args .answer .now) (c .before .before .before .before .before .before .before .before .before .before .before .before .unpack-table .result) (c .before .before .before .before .before .before .before .before .before .before .before .before .unpack-table .ensures) ((c .before .before .before .before .before .before .before .before .before .before .before .unpack-16 .result) .ok) (λ (t : TransactionTable). registrarLapse t (record { bytes = (c .before .before .before .before .before .before .before .before .before .before .before .unpack-16 .result) .bytes })) (c .before .before .before .before .before .before .before .before .before .before .boundary-fault .result) (c .before .before .before .before .before .before .before .before .before .before .boundary-fault .ensures) (c .before .before .before .before .before .before .before .before .before .if1 .left) (c .before .before .before .before .before .lapse .result) ((c .before .before .before .before .before .lapse .ensures) ∙ ap (λ (i : TransactionId). registrarLapse ((c .before .before .before .before .before .before .before .before .before .before .before .before .unpack-table .result) .table) i) (c .before .before .before .before .before .before .id-from .ensures)) _ _ _ (c .before .before .before .before .registrar-answered .ensures))))
+    returns)

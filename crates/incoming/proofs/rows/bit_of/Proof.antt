@@ -1,12 +1,16 @@
 -- Each arm's number has its bit in the table; any other number has none.
-use mathlib.Core.Path.{sym, ap, _∙_}
+use mathlib.Core.Bool.{Bool, true, false, cond}
+use mathlib.Core.Path.{_≡_, refl, sym, ap, _∙_}
 use Prim.Native.Nat.{ℕ}
 use borrow.Author.Needs.{needs}
 use borrow.Author.Tests.{ne-eqb}
 use Rattle.protocol.specs.Refusals.{bitOf}
-use Rattle.incoming.proofs.Laws.{cond-same}
 use Rattle.incoming.proofs.rows.bit_of.Statement.{statement}
 use Rattle.incoming.proofs.rows.bit_of.Tie as tie
+
+cond-same : {A : Type 0} (t : Bool) (x : A) → cond t x x ≡ x
+cond-same true x = refl
+cond-same false x = refl
 
 returns-rest : tie.Need-returns-21
 unfolding bitOf

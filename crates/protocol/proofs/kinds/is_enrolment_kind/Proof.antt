@@ -1,5 +1,5 @@
 -- The code tests what the definition tests.
-use Rattle.protocol.proofs.CodeLaws.{tests}
+use Rattle.der.proofs.Auto.{tests}
 use Rattle.protocol.proofs.kinds.is_enrolment_kind.Statement.{statement}
 use Rattle.protocol.proofs.kinds.is_enrolment_kind.Tie as tie
 

@@ -7,4 +7,4 @@ is-for-spec = tie.close (tie.spec
     (λ c κs. search tests)
     (λ c. search (tests, told (c .before .is-free .ensures) (c .if1 .taken)))
     (λ c κs. search tests)
-    (λ c. search (tests, c .same .ensures, told (c .before .before .before .is-free .ensures) (c .before .before .if1 .left))))
+    (λ c. search (tests, c .same-id .ensures, told (c .before .before .before .is-free .ensures) (c .before .before .if1 .left))))
