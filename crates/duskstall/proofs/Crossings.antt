@@ -7,8 +7,9 @@ use borrow.Author.Tests.{eq-eqb, ne-eqb}
 use lib.Dec.{eqb}
 use Rattle.protocol.specs.declared.EndEntityAnswer.{EndEntityAnswer}
 use Rattle.packed.specs.Enrolment.{packEnrolmentIn}
-use Rattle.packed.specs.Answer.{outcomeNumber}
-use Rattle.duskstall.specs.Boundary.{Crossing, Crosses, untouched, unlessFaulty, packEndEntityAnswer, startWritten}
+use Rattle.packed.specs.Bytes.{packAt}
+use Rattle.packed.specs.Answer.{outcomeNumber, endEntityAnswerBytes, packEndEntityAnswer}
+use Rattle.duskstall.specs.Boundary.{Crossing, Crosses, untouched, unlessFaulty, startWritten}
 
 -- a fault of the bytes, as it was worked out and as the definition has it
 module _ (k : ℕ) {f : ℕ} (e : k ≡ f) (s b : List ℕ) (x : Crossing) where
@@ -22,7 +23,7 @@ module _ (k : ℕ) {f : ℕ} (e : k ≡ f) (s b : List ℕ) (x : Crossing) where
 
 -- ## The start
 
-module _ (a : EndEntityAnswer) (s b : List ℕ) {s′ b′ : List ℕ} (code : ℕ) (e : code ≡ outcomeNumber (a .outcome)) (h : b′ ≡ packEndEntityAnswer a b) where
+module _ (a : EndEntityAnswer) (s b : List ℕ) {s′ b′ : List ℕ} (code : ℕ) (e : code ≡ outcomeNumber (a .outcome)) (h : b′ ≡ packAt 0 endEntityAnswerBytes (packEndEntityAnswer a) b) where
   pub start-done : code ≡ 0 → s′ ≡ packEnrolmentIn (a .enrolment) s → Crosses code s′ b′ (startWritten a s b)
   start-done z k = record { code-is = e; state-is = rw (eq-eqb (outcomeNumber (a .outcome)) 0 (sym e ∙ z)) k; answer-is = h }
 

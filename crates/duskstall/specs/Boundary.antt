@@ -14,8 +14,7 @@ use Rattle.protocol.specs.declared.EndEntityAnswer.{EndEntityAnswer}
 use Rattle.packed.specs.Bytes.{packAt}
 use Rattle.packed.specs.Table.{unpackTable, packTableIn}
 use Rattle.packed.specs.Enrolment.{unpackEnrolment, packEnrolmentIn}
-use Rattle.packed.specs.Outgoing.{packOutgoing, outgoingBytes}
-use Rattle.packed.specs.Answer.{outcomeNumber, packRegistrarHead, registrarHeadBytes, packEndEntityHead, endEntityHeadBytes}
+use Rattle.packed.specs.Answer.{outcomeNumber, registrarAnswerBytes, packRegistrarAnswer, endEntityAnswerBytes, packEndEntityAnswer}
 
 -- the number that is returned, the state's bytes and the answer's bytes after a call
 pub record Crossing : Type 0 where
@@ -43,14 +42,8 @@ unlessFaulty k s a x = cond (eqb k 0) x (untouched k s a)
 
 -- ## The registrar
 
-abbrev pub registrarAnswerBytes : ℕ
-registrarAnswerBytes = 103
-
-abbrev pub packRegistrarAnswer : RegistrarAnswer → List ℕ → List ℕ
-packRegistrarAnswer a s = packAt registrarHeadBytes outgoingBytes (packOutgoing (a .outgoing)) (packAt 0 registrarHeadBytes (packRegistrarHead a) s)
-
 abbrev pub registrarWritten : RegistrarAnswer → (state answer : List ℕ) → Crossing
-registrarWritten a s b = record { code = outcomeNumber (a .outcome); state = packTableIn (a .table) s; answer = packRegistrarAnswer a b }
+registrarWritten a s b = record { code = outcomeNumber (a .outcome); state = packTableIn (a .table) s; answer = packAt 0 registrarAnswerBytes (packRegistrarAnswer a) b }
 
 unfoldable pub registrarAnswered : (ok args : Bool) → RegistrarAnswer → (state answer : List ℕ) → Crossing
 registrarAnswered ok args a s b = unlessFaulty (boundaryFault ok args (leb registrarAnswerBytes (length b))) s b (registrarWritten a s b)
@@ -61,14 +54,8 @@ registrarCrossing args f s b = registrarAnswered (unpackTable s .ok) args (f (un
 
 -- ## The end entity
 
-abbrev pub endEntityAnswerBytes : ℕ
-endEntityAnswerBytes = 102
-
-abbrev pub packEndEntityAnswer : EndEntityAnswer → List ℕ → List ℕ
-packEndEntityAnswer a s = packAt endEntityHeadBytes outgoingBytes (packOutgoing (a .outgoing)) (packAt 0 endEntityHeadBytes (packEndEntityHead a) s)
-
 abbrev pub endEntityWritten : EndEntityAnswer → (state answer : List ℕ) → Crossing
-endEntityWritten a s b = record { code = outcomeNumber (a .outcome); state = packEnrolmentIn (a .enrolment) s; answer = packEndEntityAnswer a b }
+endEntityWritten a s b = record { code = outcomeNumber (a .outcome); state = packEnrolmentIn (a .enrolment) s; answer = packAt 0 endEntityAnswerBytes (packEndEntityAnswer a) b }
 
 unfoldable pub endEntityAnswered : (ok args : Bool) → EndEntityAnswer → (state answer : List ℕ) → Crossing
 endEntityAnswered ok args a s b = unlessFaulty (boundaryFault ok args (leb endEntityAnswerBytes (length b))) s b (endEntityWritten a s b)
@@ -80,7 +67,7 @@ endEntityCrossing args f s b = endEntityAnswered (unpackEnrolment s .ok) args (f
 -- a start needs only room for an enrolment; where it is refused, the bytes stay
 abbrev pub startWritten : EndEntityAnswer → (state answer : List ℕ) → Crossing
 startWritten a s b =
-    record { code = outcomeNumber (a .outcome); state = cond (eqb (outcomeNumber (a .outcome)) 0) (packEnrolmentIn (a .enrolment) s) s; answer = packEndEntityAnswer a b }
+    record { code = outcomeNumber (a .outcome); state = cond (eqb (outcomeNumber (a .outcome)) 0) (packEnrolmentIn (a .enrolment) s) s; answer = packAt 0 endEntityAnswerBytes (packEndEntityAnswer a) b }
 
 unfoldable pub startCrossing : (args : Bool) → EndEntityAnswer → (state answer : List ℕ) → Crossing
 startCrossing args a s b = unlessFaulty (boundaryFault (eqb (length s) 82) args (leb endEntityAnswerBytes (length b))) s b (startWritten a s b)

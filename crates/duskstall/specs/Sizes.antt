@@ -6,15 +6,14 @@ use Rattle.message.specs.Read.{maxMessage}
 use Rattle.fields.specs.Fields.{fieldCount}
 use Rattle.packed.specs.Table.{tableBytes}
 use Rattle.packed.specs.Enrolment.{enrolmentBytes}
-use Rattle.packed.specs.Outgoing.{outgoingBytes}
-use Rattle.packed.specs.Answer.{registrarHeadBytes, endEntityHeadBytes}
+use Rattle.packed.specs.Answer.{registrarAnswerBytes, endEntityAnswerBytes}
 
 -- 0 a table, 1 an enrolment, 2 a registrar's answer, 3 an end entity's answer, 4 the numbers of a reading, 5 the longest message; else 0
 abbrev pub sizeOf : ℕ → ℕ
 sizeOf n =
     cond (eqb n 0) tableBytes
     (cond (eqb n 1) enrolmentBytes
-    (cond (eqb n 2) (registrarHeadBytes + outgoingBytes)
-    (cond (eqb n 3) (endEntityHeadBytes + outgoingBytes)
+    (cond (eqb n 2) registrarAnswerBytes
+    (cond (eqb n 3) endEntityAnswerBytes
     (cond (eqb n 4) fieldCount
     (cond (eqb n 5) maxMessage 0)))))

@@ -1,14 +1,12 @@
 // What both ends' calls share at the boundary: faults of the lent bytes, values from numbers, answers into bytes.
-use packed::answer::END_ENTITY_HEAD_BYTES;
-use packed::answer::REGISTRAR_HEAD_BYTES;
-use packed::answer::pack_end_entity_head;
-use packed::answer::pack_registrar_head;
+use packed::answer::END_ENTITY_ANSWER_BYTES;
+use packed::answer::REGISTRAR_ANSWER_BYTES;
+use packed::answer::pack_end_entity_answer;
+use packed::answer::pack_registrar_answer;
 use packed::arrays::Unpacked16;
 use packed::arrays::Unpacked32;
 use packed::enrolment::ENROLMENT_BYTES;
 use packed::enrolment::pack_enrolment;
-use packed::outgoing::OUTGOING_BYTES;
-use packed::outgoing::pack_outgoing;
 use packed::table::pack_table;
 use protocol::Board;
 use protocol::EndEntityAnswer;
@@ -23,11 +21,7 @@ ghost use mathlib.Core.Bool.{_&&_};
 ghost use Rattle.packed.specs.Table.{packTableIn};
 ghost use Rattle.packed.specs.Enrolment.{packEnrolmentIn};
 ghost use Rattle.packed.specs.Answer.{outcomeNumber};
-ghost use Rattle.duskstall.specs.Boundary.{Crosses, boundaryFault, registrarAnswered, packEndEntityAnswer, endEntityAnswered, startCrossing, yes, verdictOf};
-
-pub(crate) const REGISTRAR_ANSWER: usize = REGISTRAR_HEAD_BYTES + OUTGOING_BYTES;
-
-pub(crate) const END_ENTITY_ANSWER: usize = END_ENTITY_HEAD_BYTES + OUTGOING_BYTES;
+ghost use Rattle.duskstall.specs.Boundary.{Crosses, boundaryFault, registrarAnswered, endEntityAnswered, startCrossing, yes, verdictOf};
 
 pub(crate) fn id_from(u: Unpacked16) -> TransactionId
     ensures { λ r. ⌜ r ≡ record { bytes = u .bytes } ⌝ }
@@ -108,23 +102,14 @@ pub(crate) fn registrar_answered(
 ) -> u64
     ensures { λ r. ⌜ Crosses r (now (table .exit)) (now (answer .exit)) (registrarAnswered ok args a (now (table .entry)) (now (answer .entry))) ⌝ }
 {
-    let fault = boundary_fault(ok, args, REGISTRAR_ANSWER <= answer.len());
+    let fault = boundary_fault(ok, args, REGISTRAR_ANSWER_BYTES <= answer.len());
     if fault != 0 {
         return fault;
     }
     let outcome = a.outcome;
     pack_table(table, a.table);
-    pack_registrar_head(answer, a);
-    pack_outgoing(answer, REGISTRAR_HEAD_BYTES, a.outgoing);
+    pack_registrar_answer(answer, a);
     outcome_code(outcome)
-}
-
-// The end entity's answer without its enrolment.
-fn put_answer(answer: &mut [u8], a: EndEntityAnswer)
-    ensures { λ _. ⌜ now (answer .exit) ≡ packEndEntityAnswer a (now (answer .entry)) ⌝ }
-{
-    pack_end_entity_head(answer, a);
-    pack_outgoing(answer, END_ENTITY_HEAD_BYTES, a.outgoing);
 }
 
 // The end entity's answer into the lent bytes, unless these are at fault. `ok`: they were an enrolment.
@@ -137,13 +122,13 @@ pub(crate) fn end_entity_answered(
 ) -> u64
     ensures { λ r. ⌜ Crosses r (now (enrolment .exit)) (now (answer .exit)) (endEntityAnswered ok args a (now (enrolment .entry)) (now (answer .entry))) ⌝ }
 {
-    let fault = boundary_fault(ok, args, END_ENTITY_ANSWER <= answer.len());
+    let fault = boundary_fault(ok, args, END_ENTITY_ANSWER_BYTES <= answer.len());
     if fault != 0 {
         return fault;
     }
     let outcome = a.outcome;
     pack_enrolment(enrolment, a.enrolment);
-    put_answer(answer, a);
+    pack_end_entity_answer(answer, a);
     outcome_code(outcome)
 }
 
@@ -156,14 +141,14 @@ pub(crate) fn start_answered(
 ) -> u64
     ensures { λ r. ⌜ Crosses r (now (enrolment .exit)) (now (answer .exit)) (startCrossing args a (now (enrolment .entry)) (now (answer .entry))) ⌝ }
 {
-    let room = END_ENTITY_ANSWER <= answer.len();
+    let room = END_ENTITY_ANSWER_BYTES <= answer.len();
     let fault = boundary_fault(enrolment.len() == ENROLMENT_BYTES, args, room);
     if fault != 0 {
         return fault;
     }
     let outcome = a.outcome;
     let code = outcome_code(outcome);
-    put_answer(answer, a);
+    pack_end_entity_answer(answer, a);
     if code == 0 {
         pack_enrolment(enrolment, a.enrolment);
         return code;

@@ -3,12 +3,12 @@ mod boundary;
 pub mod end_entity_calls;
 pub mod registrar_calls;
 
-use crate::boundary::END_ENTITY_ANSWER;
-use crate::boundary::REGISTRAR_ANSWER;
 use fields::FIELDS;
 use fields::check_number;
 use fields::read_into;
 use message::MAX_MESSAGE;
+use packed::answer::END_ENTITY_ANSWER_BYTES;
+use packed::answer::REGISTRAR_ANSWER_BYTES;
 use packed::enrolment::ENROLMENT_BYTES;
 use packed::table::TABLE_BYTES;
 ghost use mathlib.Core.Path.{_≡_};
@@ -46,10 +46,10 @@ pub extern "C" fn duskstall_size(what: u8) -> u64
         return ENROLMENT_BYTES as u64;
     }
     if what == 2 {
-        return REGISTRAR_ANSWER as u64;
+        return REGISTRAR_ANSWER_BYTES as u64;
     }
     if what == 3 {
-        return END_ENTITY_ANSWER as u64;
+        return END_ENTITY_ANSWER_BYTES as u64;
     }
     if what == 4 {
         return FIELDS as u64;

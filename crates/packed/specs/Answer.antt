@@ -1,4 +1,4 @@
--- The heads of answers in bytes: how the call ended, the reader's fault, the slot, whether something is to be sent.
+-- Answers in bytes: how the call ended, the reader's fault, the slot, whether something is to be sent, and what.
 use Prim.Native.Nat.{ℕ}
 use mathlib.Core.List.{List, [], _∷_, _++_}
 use mathlib.Core.Bool.{cond}
@@ -9,7 +9,7 @@ use Rattle.protocol.specs.declared.Outcome.the-variants.{Done, Again, Refused}
 use Rattle.protocol.specs.declared.RegistrarAnswer.{RegistrarAnswer}
 use Rattle.protocol.specs.declared.EndEntityAnswer.{EndEntityAnswer}
 use Rattle.packed.specs.Bytes.{flag, eightBytes}
-use Rattle.packed.specs.Outgoing.{failureNumber}
+use Rattle.packed.specs.Outgoing.{failureNumber, packOutgoing}
 
 -- ## How the call ended
 
@@ -38,20 +38,29 @@ packOutcome o = (outcomeNumber o ∷ []) ++ ((refusalNumber o ∷ []) ++ (refusa
 unfoldable pub packFault : Fault → List ℕ
 packFault f = (f .number ∷ []) ++ (eightBytes (f .at .0) ++ (f .rule ∷ []))
 
--- ## The heads
+-- ## The answers
 
 -- a slot in one byte; 255 stands for all past it, which no table has
 abbrev pub slotByte : ℕ → ℕ
 slotByte n = cond (ltb n 255) n 255
 
-abbrev pub registrarHeadBytes : ℕ
-registrarHeadBytes = 15
+abbrev pub registrarAnswerBytes : ℕ
+registrarAnswerBytes = 103
 
-unfoldable pub packRegistrarHead : RegistrarAnswer → List ℕ
-packRegistrarHead a = packOutcome (a .outcome) ++ (packFault (a .fault) ++ ((slotByte (a .slot .0) ∷ []) ++ (flag (a .sends) ∷ [])))
+unfoldable pub packRegistrarAnswer : RegistrarAnswer → List ℕ
+packRegistrarAnswer a =
+    packOutcome (a .outcome) ++ (
+    packFault (a .fault) ++ (
+    (slotByte (a .slot .0) ∷ []) ++ (
+    (flag (a .sends) ∷ []) ++
+    packOutgoing (a .outgoing))))
 
-abbrev pub endEntityHeadBytes : ℕ
-endEntityHeadBytes = 14
+abbrev pub endEntityAnswerBytes : ℕ
+endEntityAnswerBytes = 102
 
-unfoldable pub packEndEntityHead : EndEntityAnswer → List ℕ
-packEndEntityHead a = packOutcome (a .outcome) ++ (packFault (a .fault) ++ (flag (a .sends) ∷ []))
+unfoldable pub packEndEntityAnswer : EndEntityAnswer → List ℕ
+packEndEntityAnswer a =
+    packOutcome (a .outcome) ++ (
+    packFault (a .fault) ++ (
+    (flag (a .sends) ∷ []) ++
+    packOutgoing (a .outgoing)))

@@ -1,8 +1,10 @@
-// The head of an answer, in lent bytes: what stands before the outgoing message.
+// An answer in lent bytes: how the call ended, the reader's fault, the slot, and what is to be sent.
 use crate::bytes::put_1;
 use crate::bytes::put_8;
 use crate::bytes::put_flag;
+use crate::outgoing::OUTGOING_BYTES;
 use crate::outgoing::failure_number;
+use crate::outgoing::put_outgoing;
 use message::Fault;
 use protocol::EndEntityAnswer;
 use protocol::Outcome;
@@ -12,11 +14,11 @@ ghost use mathlib.Core.Path.{_≡_};
 ghost use Prim.Native.Nat.{_≤_};
 ghost use lib.ListN.{length};
 ghost use Rattle.packed.specs.Bytes.{Placed, hasRoom, packAt};
-ghost use Rattle.packed.specs.Answer.{outcomeNumber, refusalNumber, refusalBit, packOutcome, packFault, slotByte, registrarHeadBytes, packRegistrarHead, endEntityHeadBytes, packEndEntityHead};
+ghost use Rattle.packed.specs.Answer.{outcomeNumber, refusalNumber, refusalBit, packOutcome, packFault, slotByte, registrarAnswerBytes, packRegistrarAnswer, endEntityAnswerBytes, packEndEntityAnswer};
 
-pub const REGISTRAR_HEAD_BYTES: usize = 15;
+pub const REGISTRAR_ANSWER_BYTES: usize = 15 + OUTGOING_BYTES;
 
-pub const END_ENTITY_HEAD_BYTES: usize = 14;
+pub const END_ENTITY_ANSWER_BYTES: usize = 14 + OUTGOING_BYTES;
 
 fn outcome_number(o: Outcome) -> u8
     ensures { λ r. ⌜ r ≡ outcomeNumber o ⌝ }
@@ -73,11 +75,11 @@ fn slot_byte(s: Slot) -> u8
     if s.0 < 255 { s.0 as u8 } else { 255 }
 }
 
-// The head as the first bytes. False, with nothing changed, where there is no room for it.
-pub fn pack_registrar_head(bytes: &mut [u8], a: RegistrarAnswer) -> bool
-    ensures { λ r. ⌜ (r ≡ hasRoom 0 registrarHeadBytes (now (bytes .entry))) × (now (bytes .exit) ≡ packAt 0 registrarHeadBytes (packRegistrarHead a) (now (bytes .entry))) ⌝ }
+// The answer as the first bytes. False, with nothing changed, where there is no room for it.
+pub fn pack_registrar_answer(bytes: &mut [u8], a: RegistrarAnswer) -> bool
+    ensures { λ r. ⌜ (r ≡ hasRoom 0 registrarAnswerBytes (now (bytes .entry))) × (now (bytes .exit) ≡ packAt 0 registrarAnswerBytes (packRegistrarAnswer a) (now (bytes .entry))) ⌝ }
 {
-    if bytes.len() < REGISTRAR_HEAD_BYTES {
+    if bytes.len() < REGISTRAR_ANSWER_BYTES {
         return false;
     }
     let outcome = a.outcome;
@@ -85,19 +87,21 @@ pub fn pack_registrar_head(bytes: &mut [u8], a: RegistrarAnswer) -> bool
     put_fault(bytes, a.fault);
     put_1(bytes, 13, slot_byte(a.slot));
     put_flag(bytes, 14, a.sends);
+    put_outgoing(bytes, 15, a.outgoing);
     true
 }
 
-// The head as the first bytes. False, with nothing changed, where there is no room for it.
-pub fn pack_end_entity_head(bytes: &mut [u8], a: EndEntityAnswer) -> bool
-    ensures { λ r. ⌜ (r ≡ hasRoom 0 endEntityHeadBytes (now (bytes .entry))) × (now (bytes .exit) ≡ packAt 0 endEntityHeadBytes (packEndEntityHead a) (now (bytes .entry))) ⌝ }
+// The answer as the first bytes. False, with nothing changed, where there is no room for it.
+pub fn pack_end_entity_answer(bytes: &mut [u8], a: EndEntityAnswer) -> bool
+    ensures { λ r. ⌜ (r ≡ hasRoom 0 endEntityAnswerBytes (now (bytes .entry))) × (now (bytes .exit) ≡ packAt 0 endEntityAnswerBytes (packEndEntityAnswer a) (now (bytes .entry))) ⌝ }
 {
-    if bytes.len() < END_ENTITY_HEAD_BYTES {
+    if bytes.len() < END_ENTITY_ANSWER_BYTES {
         return false;
     }
     let outcome = a.outcome;
     put_outcome(bytes, outcome);
     put_fault(bytes, a.fault);
     put_flag(bytes, 13, a.sends);
+    put_outgoing(bytes, 14, a.outgoing);
     true
 }

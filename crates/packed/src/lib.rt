@@ -3,5 +3,5 @@ pub mod answer;
 pub mod arrays;
 mod bytes;
 pub mod enrolment;
-pub mod outgoing;
+mod outgoing;
 pub mod table;

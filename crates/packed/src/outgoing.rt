@@ -9,10 +9,10 @@ use protocol::Outgoing;
 ghost use mathlib.Core.Path.{_≡_};
 ghost use Prim.Native.Nat.{_+_, _≤_};
 ghost use lib.ListN.{length};
-ghost use Rattle.packed.specs.Bytes.{Placed, hasRoom, packAt};
+ghost use Rattle.packed.specs.Bytes.{Placed};
 ghost use Rattle.packed.specs.Outgoing.{failureNumber, outgoingBytes, packNames, packStatus, packOutgoing};
 
-pub const OUTGOING_BYTES: usize = 88;
+pub(crate) const OUTGOING_BYTES: usize = 88;
 
 pub(crate) fn failure_number(f: FailureInfo) -> u8
     ensures { λ r. ⌜ r ≡ failureNumber f ⌝ }
@@ -51,17 +51,11 @@ fn put_status(bytes: &mut [u8], at: usize, o: Outgoing)
     put_1(bytes, at + 37, failure_number(failure));
 }
 
-// The message as bytes from an offset on. False, with nothing changed, where there is no room for it.
-pub fn pack_outgoing(bytes: &mut [u8], at: usize, o: Outgoing) -> bool
-    ensures { λ r. ⌜ (r ≡ hasRoom at outgoingBytes (now (bytes .entry))) × (now (bytes .exit) ≡ packAt at outgoingBytes (packOutgoing o) (now (bytes .entry))) ⌝ }
+// The message as bytes from an offset on.
+pub(crate) fn put_outgoing(bytes: &mut [u8], at: usize, o: Outgoing)
+    requires { ⌜ at + outgoingBytes ≤ length (now bytes) ⌝ }
+    ensures { λ _. ⌜ Placed at outgoingBytes (packOutgoing o) (now (bytes .entry)) (now (bytes .exit)) ⌝ }
 {
-    if bytes.len() < OUTGOING_BYTES {
-        return false;
-    }
-    if bytes.len() - OUTGOING_BYTES < at {
-        return false;
-    }
     put_names(bytes, at, o);
     put_status(bytes, at + 50, o);
-    true
 }

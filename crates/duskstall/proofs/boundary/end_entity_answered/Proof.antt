@@ -18,7 +18,7 @@ returns-2 c =
     through _ (tested .before .boundary-fault .ensures) _ _ _ (tested .if1 .left) _ _ _ (record {
       code-is = c .outcome-code .ensures;
       state-is = enrolment .pack-enrolment .ensures .1;
-      answer-is = answer .put-answer .ensures;
+      answer-is = answer .pack-end-entity-answer .ensures .1;
     })
 
 pub end-entity-answered-spec : {M : Type 1} → statement M

@@ -1,4 +1,4 @@
--- A fault ends the call; else table, head and message are put in, one after the other.
+-- A fault ends the call; else table and answer are put in, one after the other.
 use borrow.Author.Needs.{needs}
 use Rattle.duskstall.specs.Boundary.{registrarAnswered}
 use Rattle.duskstall.proofs.Crossings.{faulty, through}
@@ -12,21 +12,19 @@ returns c = faulty _ (c .before .boundary-fault .ensures) _ _ _ (c .if1 .taken)
 returns-2 : tie.Need-returns-2
 unfolding registrarAnswered
 returns-2 c =
-    let outgoing = c .before .before .before in
-    let head = outgoing .before .before .before .before in
-    let table = head .before .before .before .before in
+    let answer = c .before .before .before in
+    let table = answer .before .before .before .before in
     let tested = table .before .before in
     through _ (tested .before .boundary-fault .ensures) _ _ _ (tested .if1 .left) _ _ _ (record {
       code-is = c .outcome-code .ensures;
       state-is = table .pack-table .ensures .1;
-      answer-is = rw (← head .pack-registrar-head .ensures .1) (outgoing .pack-outgoing .ensures .1);
+      answer-is = answer .pack-registrar-answer .ensures .1;
     })
 
 pub registrar-answered-spec : {M : Type 1} → statement M
 registrar-answered-spec = tie.close (tie.spec
     (λ c κs. search needs)
     returns
-    (λ c κs. search needs)
     (λ c κs. search needs)
     (λ c κs. search needs)
     (λ c κs. search needs)

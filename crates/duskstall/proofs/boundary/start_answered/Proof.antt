@@ -19,7 +19,7 @@ returns-2 c =
     let code = answer .before .before in
     let tested = code .before in
     through _ (tested .before .boundary-fault .ensures) _ _ _ (tested .if1 .left) _ _ _
-    (start-done _ _ _ _ (code .outcome-code .ensures) (answer .put-answer .ensures) (chosen .if2 .taken) (enrolment .pack-enrolment .ensures .1))
+    (start-done _ _ _ _ (code .outcome-code .ensures) (answer .pack-end-entity-answer .ensures .1) (chosen .if2 .taken) (enrolment .pack-enrolment .ensures .1))
 
 returns-3 : tie.Need-returns-3
 unfolding startCrossing
@@ -28,7 +28,7 @@ returns-3 c =
     let code = answer .before .before in
     let tested = code .before in
     through _ (tested .before .boundary-fault .ensures) _ _ _ (tested .if1 .left) _ _ _
-    (start-refused _ _ _ _ (code .outcome-code .ensures) (answer .put-answer .ensures) (c .if2 .left) refl)
+    (start-refused _ _ _ _ (code .outcome-code .ensures) (answer .pack-end-entity-answer .ensures .1) (c .if2 .left) refl)
 
 pub start-answered-spec : {M : Type 1} → statement M
 start-answered-spec = tie.close (tie.spec
