@@ -32,18 +32,18 @@ set-past (y ∷ ys) (suc i) x h = rw (set-past ys i x (le-of-suc-le-suc h))
 
 -- ## The slot that an id names
 
-module _ (rs : List Transaction) (id : TransactionId) (i : ℕ) where
-  pub slot-here : (d : Transaction) → i < length rs → isFor id (getD rs i d) ≡ true → slotOf (drop i rs) id ≡ 0
+module _ (rs : List Transaction) (id : TransactionId) (i : ℕ) (h : slotOf rs id ≡ i + slotOf (drop i rs) id) where
+  pub slot-here : (d : Transaction) → i < length rs → isFor id (getD rs i d) ≡ true → i ≡ slotOf rs id
   unfolding slotOf
-  slot-here d p e = rw (drop-cons rs i d p, e)
+  slot-here d p e = let z : slotOf (drop i rs) id ≡ 0 = rw (drop-cons rs i d p, e) in omega arith
 
-  pub slot-further : (d : Transaction) → i < length rs → isFor id (getD rs i d) ≡ false → slotOf (drop i rs) id ≡ suc (slotOf (drop (i + 1) rs) id)
+  pub slot-further : (d : Transaction) → i < length rs → isFor id (getD rs i d) ≡ false → slotOf rs id ≡ i + 1 + slotOf (drop (i + 1) rs) id
   unfolding slotOf
-  slot-further d p e = rw (add-one i, drop-cons rs i d p, e)
+  slot-further d p e = let z : slotOf (drop i rs) id ≡ suc (slotOf (drop (i + 1) rs) id) = rw (add-one i, drop-cons rs i d p, e) in omega arith
 
-  pub slot-end : length rs ≤ i → slotOf (drop i rs) id ≡ 0
+  pub slot-end : length rs ≤ i → i ≡ slotOf rs id
   unfolding slotOf
-  slot-end p = rw (drop-of-length-le rs p)
+  slot-end p = let z : slotOf (drop i rs) id ≡ 0 = rw (drop-of-length-le rs p) in omega arith
 
 some-at : (i : TransactionId) (r : Transaction) (rs : List Transaction) (d : Transaction) → (slotOf rs i < length rs → lookup rs i ≡ some (getD rs (slotOf rs i) d)) → (b : Bool) → cond b 0 (suc (slotOf rs i)) < suc (length rs) → cond b (some r) (lookup rs i) ≡ some (getD (r ∷ rs) (cond b 0 (suc (slotOf rs i))) d)
 some-at i r rs d ih true p = refl
@@ -74,18 +74,18 @@ slot-set (r ∷ rs) i x = replace-at r x rs (replace rs i x) (slotOf rs i) (slot
 
 -- ## The lowest free slot
 
-module _ (rs : List Transaction) (i : ℕ) where
-  pub free-here : (d : Transaction) → i < length rs → isFree (getD rs i d .state) ≡ true → freeSlot (drop i rs) ≡ 0
+module _ (rs : List Transaction) (i : ℕ) (h : freeSlot rs ≡ i + freeSlot (drop i rs)) where
+  pub free-here : (d : Transaction) → i < length rs → isFree (getD rs i d .state) ≡ true → i ≡ freeSlot rs
   unfolding freeSlot
-  free-here d p e = rw (drop-cons rs i d p, e)
+  free-here d p e = let z : freeSlot (drop i rs) ≡ 0 = rw (drop-cons rs i d p, e) in omega arith
 
-  pub free-further : (d : Transaction) → i < length rs → isFree (getD rs i d .state) ≡ false → freeSlot (drop i rs) ≡ suc (freeSlot (drop (i + 1) rs))
+  pub free-further : (d : Transaction) → i < length rs → isFree (getD rs i d .state) ≡ false → freeSlot rs ≡ i + 1 + freeSlot (drop (i + 1) rs)
   unfolding freeSlot
-  free-further d p e = rw (add-one i, drop-cons rs i d p, e)
+  free-further d p e = let z : freeSlot (drop i rs) ≡ suc (freeSlot (drop (i + 1) rs)) = rw (add-one i, drop-cons rs i d p, e) in omega arith
 
-  pub free-end : length rs ≤ i → freeSlot (drop i rs) ≡ 0
+  pub free-end : length rs ≤ i → i ≡ freeSlot rs
   unfolding freeSlot
-  free-end p = rw (drop-of-length-le rs p)
+  free-end p = let z : freeSlot (drop i rs) ≡ 0 = rw (drop-of-length-le rs p) in omega arith
 
 pub free-set : (rs : List Transaction) (x : Transaction) → set rs (freeSlot rs) x ≡ put rs x
 unfolding freeSlot put

@@ -1,10 +1,8 @@
 -- No slot passed has the id.
-use Prim.Native.Nat.{suc, _≤_, _-_, _+_}
-use mathlib.Core.List.{List}
+use Prim.Native.Nat.{_<_, _≤_, _-_, _+_}
 use mathlib.Core.Path.{_≡_, sym, _∙_}
 use native.Mathlib.Omega.{arith}
 use lib.ListN.{length, drop, length-map}
-use Rattle.protocol.specs.declared.Transaction.{Transaction}
 use Rattle.protocol.specs.Table.{slotOf}
 use Rattle.registrar.proofs.SlotLaws.{slot-here, slot-further, slot-end}
 use Rattle.registrar.proofs.slots.find.Statement.{statement}
@@ -16,29 +14,30 @@ Inv-loop id table i₀ i = (i ≤ 16) × (slotOf (table .transactions) id ≡ i 
 abbrev μ-loop : tie.MeasureT-loop
 μ-loop id table i₀ i = 16 - i
 
+sized : (s : tie.Start Inv-loop μ-loop) → length (s .args .t1 .transactions) ≡ 16
+sized s = sym (length-map (s .args .t1 .transactions) _) ∙ s .good .0 .1 .1 .0 .1 .0 .1
+
+inside : (c : tie.In-loop Inv-loop μ-loop) → c .before .loop .i < length (c .before .before .args .t1 .transactions)
+inside c = rw (sized (c .before .before)) (c .loop-test .taken)
+
 returns : tie.Need-returns Inv-loop μ-loop
 returns c =
-    let l = c .before .before .before .before in
-    let rs : List Transaction = l .before .args .t1 .transactions in
-    let h : length rs ≡ 16 = cc (length-map rs _) in
-    let e : slotOf (drop (l .loop .i) rs) (l .before .args .id) ≡ 0 = slot-here rs (l .before .args .id) (l .loop .i) _ (omega arith) (sym (c .before .is-for .ensures) ∙ c .if1 .taken) in
-    (omega arith, h)
+    let t = c .before .before in
+    let l = t .before .before in
+    (slot-here (l .before .args .t1 .transactions) (l .before .args .id) (l .loop .i) (l .loop .inv .1) _ (inside (t .before)) (sym (c .before .is-for .ensures) ∙ c .if1 .taken), sized (l .before))
 
 loop-again : tie.Need-loop-again Inv-loop μ-loop
 loop-again c =
-    let l = c .before .before .before .before in
-    let rs : List Transaction = l .before .args .t1 .transactions in
-    let h : length rs ≡ 16 = cc (length-map rs _) in
-    let e : slotOf (drop (l .loop .i) rs) (l .before .args .id) ≡ suc (slotOf (drop (l .loop .i + 1) rs) (l .before .args .id)) = slot-further rs (l .before .args .id) (l .loop .i) _ (omega arith) (sym (c .before .is-for .ensures) ∙ c .if1 .left) in
-    (omega arith, omega arith)
+    let t = c .before .before in
+    let l = t .before .before in
+    (omega (arith, t .before .loop-test .taken), slot-further (l .before .args .t1 .transactions) (l .before .args .id) (l .loop .i) (l .loop .inv .1) _ (inside (t .before)) (sym (c .before .is-for .ensures) ∙ c .if1 .left))
 
 returns-2 : tie.Need-returns-2 Inv-loop μ-loop
 returns-2 c =
     let l = c .before in
-    let rs : List Transaction = l .before .args .t1 .transactions in
-    let h : length rs ≡ 16 = cc (length-map rs _) in
-    (omega (arith, slot-end rs (l .before .args .id) (l .loop .i) (omega arith)), h)
+    let s = l .before in
+    (omega (arith, c .loop-test .left, l .loop .inv .0, slot-end (s .args .t1 .transactions) (s .args .id) (l .loop .i) (l .loop .inv .1) (rw (sized s) (c .loop-test .left))), sized s)
 
 pub find-spec : {M : Type 1} → statement M
 find-spec =
-    tie.close (tie.spec Inv-loop μ-loop (λ c. (omega arith, omega arith)) (λ c. omega arith) (λ c. omega arith) (λ c κs. tt) returns (λ c. omega arith) (λ c. omega arith) loop-again returns-2)
+    tie.close (tie.spec Inv-loop μ-loop (λ c. (omega arith, omega arith)) (λ c. omega (arith, c .loop-test .taken)) (λ c. omega (arith, c .loop-test .taken)) (λ c κs. tt) returns (λ c. omega (arith, c .before .before .before .loop-test .taken)) (λ c. omega (arith, c .before .before .before .loop-test .taken)) loop-again returns-2)
