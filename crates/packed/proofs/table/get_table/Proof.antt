@@ -1,10 +1,10 @@
 -- The first `i` rows are read.
-use Prim.Native.Nat.{ℕ, _-_, _*_}
+use Prim.Native.Nat.{ℕ, _-_, _*_, _<_, _≤_}
 use mathlib.Core.List.{List}
-use mathlib.Core.Path.{_≡_, refl, _∙_}
+use mathlib.Core.Path.{_≡_, refl, sym, ap, _∙_}
 use native.Mathlib.Omega.{arith}
 use borrow.Author.Needs.{needs}
-use lib.ListN.{drop}
+use lib.ListN.{length, drop}
 use lib.Seq.{take-all}
 use Rattle.protocol.specs.Table.{capacity, freeTransaction}
 use Rattle.packed.specs.Table.{transactionBytes, transactionOf, rowsOf}
@@ -27,21 +27,25 @@ get-table-spec =
     μ-loop
     (λ c κs. search needs)
     (λ c. (record { below = omega arith; is = refl }, refl))
-    (λ c κs. omega arith)
-    (λ c. omega arith)
-    (λ c. omega arith)
-    (λ c. omega arith)
-    (λ c. omega arith)
-    (λ c. omega arith)
+    (λ c κs. omega (arith, c .loop-test .taken, c .before .loop .inv .1, c .before .before .before .before .before .pre))
+    (λ c. omega (arith, c .before .loop-test .taken))
+    (λ c. omega (arith, c .before .loop-test .taken))
+    (λ c. omega (arith, c .before .loop-test .taken))
+    (λ c. omega (arith, c .before .loop-test .taken, c .before .before .loop .inv .1))
+    (λ c. omega (arith, c .before .loop-test .taken))
     (λ c.
-    let s : List ℕ = c .before .before .before .before .before .before .args .bytes .now in
-    let i : ℕ = c .before .before .loop .i in
-    let e : transactionOf (drop (i * transactionBytes) s) ≡ c .get-transaction .result = cc in (
-      fill-more (c .before .before .loop .inv .0) (empty-length _ (c .before .before .before .before .empty .ensures)) (omega (arith, length-rows capacity s)) (omega arith) _ freeTransaction
-          (row-at capacity i s freeTransaction (omega arith) ∙ e),
-      omega arith,
+    let l = c .before .before in
+    let s : List ℕ = l .before .before .before .before .args .bytes .now in
+    let i : ℕ = l .loop .i in
+    let h : i < capacity = c .before .loop-test .taken in
+    let n : capacity ≤ length (rowsOf capacity s) = omega (arith, length-rows capacity s) in
+    let e : transactionOf (drop (i * transactionBytes) s) ≡ c .get-transaction .result = sym (c .get-transaction .ensures ∙ ap (λ (k : ℕ). transactionOf (drop k s)) (l .loop .inv .1)) in (
+      fill-more (l .loop .inv .0) (empty-length _ (l .before .before .empty .ensures)) n h _ freeTransaction (row-at capacity i s freeTransaction h ∙ e),
+      omega (arith, l .loop .inv .1),
     ))
     (λ c.
-    let s : List ℕ = c .before .before .before .before .before .args .bytes .now in
-    let e : _ = fill-all (c .before .loop .inv .0) (empty-length _ (c .before .before .before .empty .ensures)) (omega arith) ∙ take-all capacity (rowsOf capacity s) (omega (arith, length-rows capacity s)) in
-    cc))
+    let l = c .before in
+    let s : List ℕ = l .before .before .before .before .args .bytes .now in
+    let n : length (rowsOf capacity s) ≤ capacity = omega (arith, length-rows capacity s) in
+    let e : l .loop .rows ≡ rowsOf capacity s = fill-all (l .loop .inv .0) (empty-length _ (l .before .before .empty .ensures)) (c .loop-test .left) ∙ take-all capacity (rowsOf capacity s) n in
+    λ i. record { transactions = e i }))
