@@ -1,23 +1,44 @@
-use Rattle.der.proofs.Auto.{tests}
-use Rattle.grammar.specs.Message.{messageOf}
+-- The parts one after the other, as the definition names them.
+use Prim.Native.Nat.{ℕ}
+use mathlib.Core.List.{List}
+use mathlib.Core.Path.{_≡_}
+use lib.ListN.{length}
+use Rattle.grammar.specs.declared.Span.{Span}
+use Rattle.grammar.specs.declared.cursor.Cursor.{Cursor}
+use Rattle.grammar.specs.declared.parts.Each.the-variants.{Certificate}
+use Rattle.grammar.specs.declared.pki_header.HeaderRead.{HeaderRead}
+use Rattle.grammar.specs.declared.pki_body.BodyRead.{BodyRead}
+use Rattle.grammar.specs.declared.pki_message.MessageRead.{MessageRead}
+use Rattle.grammar.specs.Cursor.{needOf, doneOf, enterOf, leaveOf}
+use Rattle.grammar.specs.Parts.{wholeSpan, outerSpan, fieldOf, sequenceField}
+use Rattle.grammar.specs.Header.{headerOf}
+use Rattle.grammar.specs.Body.{bodyOf}
+use Rattle.grammar.specs.Message.{startAt, messageOf}
 use Rattle.grammar.proofs.pki_message.read_message.Statement.{statement}
 use Rattle.grammar.proofs.pki_message.read_message.Tie as tie
 
-pub read-message-spec : {M : Type 1} → statement M
+whole : (m : List ℕ) {z s c p x d l q : Cursor} {h : HeaderRead} {b : BodyRead} {i j k n : Span} →
+    z ≡ startAt (length m) → s ≡ needOf m 0x30 z → c ≡ enterOf s → h ≡ headerOf m c → b ≡ bodyOf m (h .cur) → p ≡ fieldOf m 0xA0 0x03 (b .cur) → x ≡ sequenceField m 0xA1 Certificate p →
+    d ≡ doneOf x → l ≡ leaveOf s d → q ≡ doneOf l →
+    i ≡ wholeSpan c (h .cur) → j ≡ wholeSpan (h .cur) (b .cur) → k ≡ outerSpan (b .cur) p → n ≡ outerSpan p x →
+    _≡_ {A = MessageRead} (record { cur = q; found = record { header = i; body = j; protection = k; «extra_certs» = n; fields = h .fields; contents = b .contents } }) (messageOf m)
 unfolding messageOf
+whole m z s c h b p x d l q i j k n = simp (i, j, k, n, q, l, d, x, p, b, h, c, s, z)
+
+pub read-message-spec : {M : Type 1} → statement M
 read-message-spec = tie.close (tie.spec
-    (λ c κs. search tests)
-    (λ c κs. search tests)
-    (λ c κs. search tests)
-    (λ c κs. search tests)
-    (λ c κs. search tests)
-    (λ c κs. search tests)
-    (λ c κs. search tests)
-    (λ c κs. search tests)
-    (λ c κs. search tests)
-    (λ c κs. search tests)
-    (λ c κs. search tests)
-    (λ c κs. search tests)
-    (λ c κs. search tests)
-    (λ c κs. search tests)
-    (λ c. simp (c .outer-span2 .ensures, c .before .outer-span .ensures, c .before .before .whole-span2 .ensures, c .before .before .before .whole-span .ensures, ← c .before .before .before .before .before .before .done2 .ensures, ← c .before .before .before .before .before .before .before .leave .ensures, ← c .before .before .before .before .before .before .before .before .done .ensures, ← c .before .before .before .before .before .before .before .before .before .sequence-field .ensures, ← c .before .before .before .before .before .before .before .before .before .before .field .ensures, ← c .before .before .before .before .before .before .before .before .before .before .before .read-body .ensures, ← c .before .before .before .before .before .before .before .before .before .before .before .before .read-header .ensures, ← c .before .before .before .before .before .before .before .before .before .before .before .before .before .enter .ensures, ← c .before .before .before .before .before .before .before .before .before .before .before .before .before .before .need .ensures, ← c .before .before .before .before .before .before .before .before .before .before .before .before .before .before .before .start-at .ensures)))
+    (λ c κs. tt)
+    (λ c κs. tt)
+    (λ c κs. tt)
+    (λ c κs. tt)
+    (λ c κs. tt)
+    (λ c κs. tt)
+    (λ c κs. tt)
+    (λ c κs. tt)
+    (λ c κs. tt)
+    (λ c κs. tt)
+    (λ c κs. tt)
+    (λ c κs. tt)
+    (λ c κs. tt)
+    (λ c κs. tt)
+    (λ c. whole _ (c .before .before .before .before .before .before .before .before .before .before .before .before .before .before .before .start-at .ensures) (c .before .before .before .before .before .before .before .before .before .before .before .before .before .before .need .ensures) (c .before .before .before .before .before .before .before .before .before .before .before .before .before .enter .ensures) (c .before .before .before .before .before .before .before .before .before .before .before .before .read-header .ensures) (c .before .before .before .before .before .before .before .before .before .before .before .read-body .ensures) (c .before .before .before .before .before .before .before .before .before .before .field .ensures) (c .before .before .before .before .before .before .before .before .before .sequence-field .ensures) (c .before .before .before .before .before .before .before .before .done .ensures) (c .before .before .before .before .before .before .before .leave .ensures) (c .before .before .before .before .before .before .done2 .ensures) (c .before .before .before .whole-span .ensures) (c .before .before .whole-span2 .ensures) (c .before .outer-span .ensures) (c .outer-span2 .ensures)))
