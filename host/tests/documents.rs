@@ -8,7 +8,7 @@ mod tree;
 use std::collections::BTreeSet;
 use tree::{
     all_functions, all_labels, crate_of, edits, files, labels, names_of_the_tree, quoted, root,
-    text, words, Function,
+    text, turned, words, Function,
 };
 
 /// The names in a document's backticks that are not in the tree, and how many were looked at.
@@ -94,6 +94,55 @@ fn every_public_function_has_two_wrong_answers() {
         missing.len()
     );
     assert!(missing.is_empty(), "not in PROMISES.md: {missing:#?}");
+}
+
+#[test]
+fn each_crate_has_as_many_edit_files_as_public_functions() {
+    let public: Vec<String> = all_functions()
+        .iter()
+        .filter(|function| function.public)
+        .map(|function| crate_of(&function.path))
+        .collect();
+    let edited: Vec<String> = edits().iter().map(|edit| crate_of(edit)).collect();
+    let count = |all: &[String], name: &str| all.iter().filter(|n| *n == name).count();
+    let crates: BTreeSet<&String> = public.iter().collect();
+    for name in crates {
+        let (functions, files) = (count(&public, name), count(&edited, name));
+        println!("{name}: public functions {functions}, edit files {files}");
+        assert!(functions <= files, "{name} has too few edit files");
+    }
+}
+
+/// In one edit file no function is turned twice, and none uses a constant that is changed for another: else it would not show
+/// which change the prover refused. That none calls another, `.ci/edits` asks of the prover's log.
+#[test]
+fn edits_of_one_file_stand_apart() {
+    let all = all_functions();
+    let uses = |edit: &std::path::Path, function: &str, constant: &str| {
+        all.iter().any(|f| {
+            crate_of(&f.path) == crate_of(edit)
+                && f.name == function
+                && words(&f.body).any(|word| word == constant)
+        })
+    };
+    let mut together = 0;
+    for edit in edits() {
+        let turned = turned(&edit);
+        for (at, (function, constants)) in turned.iter().enumerate() {
+            for (other, changed) in turned.iter().skip(at + 1) {
+                together += 1;
+                let shared = constants.iter().any(|c| uses(&edit, other, c))
+                    || changed.iter().any(|c| uses(&edit, function, c));
+                assert!(
+                    function != other && !shared,
+                    "{}: {function} and {other} do not stand apart",
+                    edit.display()
+                );
+            }
+        }
+    }
+    println!("pairs of functions turned in one file: {together}");
+    assert!(together > 100, "the edits were not read");
 }
 
 #[test]

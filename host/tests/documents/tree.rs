@@ -58,6 +58,24 @@ pub fn labels(edit: &Path) -> Vec<String> {
     vec![stem.into_owned()]
 }
 
+/// The functions that an edit file turns, by their last name, each with the constants that are changed for it.
+pub fn turned(edit: &Path) -> Vec<(String, Vec<String>)> {
+    let mut found: Vec<(String, Vec<String>)> = Vec::new();
+    for line in text(edit).lines() {
+        if let Some((_, function)) = line.strip_prefix("# ").and_then(|l| l.split_once(": ")) {
+            let name = function.rsplit("::").next().expect("a name");
+            found.push((name.to_string(), Vec::new()));
+        }
+        let changed = line
+            .strip_prefix("old: ")
+            .and_then(|l| l.split_once("const "));
+        if let (Some((_, rest)), Some((_, constants))) = (changed, found.last_mut()) {
+            constants.extend(words(rest).next().map(String::from));
+        }
+    }
+    found
+}
+
 pub fn crate_of(path: &Path) -> String {
     let inside = path
         .strip_prefix(root().join("crates"))
@@ -122,6 +140,7 @@ pub struct Function {
     pub requires: bool,
     pub lines: usize,
     pub loops: usize,
+    pub body: String,
 }
 
 /// The functions of one source file. A contract ends where a line is a lone `{` or the first line ends with one.
@@ -159,6 +178,7 @@ pub fn functions(path: &Path) -> Vec<Function> {
                 .iter()
                 .filter(|l| l.trim().starts_with("while "))
                 .count(),
+            body: lines[body..end].join("\n"),
         });
     }
     found
