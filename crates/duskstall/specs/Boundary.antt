@@ -13,7 +13,7 @@ use Rattle.protocol.specs.declared.RegistrarAnswer.{RegistrarAnswer}
 use Rattle.protocol.specs.declared.EndEntityAnswer.{EndEntityAnswer}
 use Rattle.packed.specs.Bytes.{packAt}
 use Rattle.packed.specs.Table.{unpackTable, packTableIn}
-use Rattle.packed.specs.Enrolment.{unpackEnrolment, packEnrolmentIn}
+use Rattle.packed.specs.Enrolment.{enrolmentBytes, unpackEnrolment, packEnrolmentIn}
 use Rattle.packed.specs.Answer.{outcomeNumber, registrarAnswerBytes, packRegistrarAnswer, endEntityAnswerBytes, packEndEntityAnswer}
 
 -- the number that is returned, the state's bytes and the answer's bytes after a call
@@ -30,18 +30,20 @@ pub record Crosses (code : ℕ) (state answer : List ℕ) (x : Crossing) : Type 
 -- ## What is wrong with the lent bytes
 
 -- 251: no state; 252: an id, a nonce or a hash of another length; 253: no room for the answer; 0: none of these
-abbrev pub boundaryFault : (state args room : Bool) → ℕ
-boundaryFault state args room = cond state (cond args (cond room 0 253) 252) 251
+abbrev pub boundaryFault : (ok args room : Bool) → ℕ
+boundaryFault ok args room = cond ok (cond args (cond room 0 253) 252) 251
 
 -- nothing changes
 abbrev pub untouched : ℕ → (state answer : List ℕ) → Crossing
 untouched k s a = record { code = k; state = s; answer = a }
 
+-- what a call does, unless the bytes are at fault
 abbrev pub unlessFaulty : ℕ → (state answer : List ℕ) → Crossing → Crossing
 unlessFaulty k s a x = cond (eqb k 0) x (untouched k s a)
 
 -- ## The registrar
 
+-- the answer goes back into the bytes
 abbrev pub registrarWritten : RegistrarAnswer → (state answer : List ℕ) → Crossing
 registrarWritten a s b = record { code = outcomeNumber (a .outcome); state = packTableIn (a .table) s; answer = packAt 0 registrarAnswerBytes (packRegistrarAnswer a) b }
 
@@ -54,6 +56,7 @@ registrarCrossing args f s b = registrarAnswered (unpackTable s .ok) args (f (un
 
 -- ## The end entity
 
+-- the answer goes back into the bytes
 abbrev pub endEntityWritten : EndEntityAnswer → (state answer : List ℕ) → Crossing
 endEntityWritten a s b = record { code = outcomeNumber (a .outcome); state = packEnrolmentIn (a .enrolment) s; answer = packAt 0 endEntityAnswerBytes (packEndEntityAnswer a) b }
 
@@ -64,13 +67,14 @@ endEntityAnswered ok args a s b = unlessFaulty (boundaryFault ok args (leb endEn
 abbrev pub endEntityCrossing : (args : Bool) → (Enrolment → EndEntityAnswer) → (state answer : List ℕ) → Crossing
 endEntityCrossing args f s b = endEntityAnswered (unpackEnrolment s .ok) args (f (unpackEnrolment s .enrolment)) s b
 
--- a start needs only room for an enrolment; where it is refused, the bytes stay
+-- where a start is refused, the bytes stay
 abbrev pub startWritten : EndEntityAnswer → (state answer : List ℕ) → Crossing
 startWritten a s b =
     record { code = outcomeNumber (a .outcome); state = cond (eqb (outcomeNumber (a .outcome)) 0) (packEnrolmentIn (a .enrolment) s) s; answer = packAt 0 endEntityAnswerBytes (packEndEntityAnswer a) b }
 
+-- a start needs only bytes as long as an enrolment
 unfoldable pub startCrossing : (args : Bool) → EndEntityAnswer → (state answer : List ℕ) → Crossing
-startCrossing args a s b = unlessFaulty (boundaryFault (eqb (length s) 82) args (leb endEntityAnswerBytes (length b))) s b (startWritten a s b)
+startCrossing args a s b = unlessFaulty (boundaryFault (eqb (length s) enrolmentBytes) args (leb endEntityAnswerBytes (length b))) s b (startWritten a s b)
 
 -- ## What is handed in
 

@@ -18,8 +18,6 @@ use protocol::TransactionId;
 use protocol::Verdict;
 ghost use mathlib.Core.Path.{_≡_};
 ghost use mathlib.Core.Bool.{_&&_};
-ghost use Rattle.packed.specs.Table.{packTableIn};
-ghost use Rattle.packed.specs.Enrolment.{packEnrolmentIn};
 ghost use Rattle.packed.specs.Answer.{outcomeNumber};
 ghost use Rattle.duskstall.specs.Boundary.{Crosses, boundaryFault, registrarAnswered, endEntityAnswered, startCrossing, yes, verdictOf};
 

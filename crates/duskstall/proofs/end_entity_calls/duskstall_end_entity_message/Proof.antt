@@ -15,7 +15,17 @@ returns c =
     let nonce-bytes = good .before in
     let hash-bytes = nonce-bytes .before in
     let enrolment = hash-bytes .before in
-    rw (← enrolment .unpack-enrolment .ensures, ← hash-bytes .unpack-32 .ensures, ← nonce-bytes .unpack-16 .ensures, ← good .yes .ensures, ← accept .yes2 .ensures, ← hash .hash-from .ensures, ← nonce .nonce-from .ensures, ← call .message .ensures, ← both .both .ensures) (last .end-entity-answered .ensures)
+    rw (
+      ← enrolment .unpack-enrolment .ensures,
+      ← hash-bytes .unpack-32 .ensures,
+      ← nonce-bytes .unpack-16 .ensures,
+      ← good .yes .ensures,
+      ← accept .yes2 .ensures,
+      ← hash .hash-from .ensures,
+      ← nonce .nonce-from .ensures,
+      ← call .message .ensures,
+      ← both .both .ensures,
+    ) (last .end-entity-answered .ensures)
 
 pub duskstall-end-entity-message-spec : {M : Type 1} → statement M
 duskstall-end-entity-message-spec = tie.close (tie.spec

@@ -12,7 +12,14 @@ returns c =
     let id = nonce .before in
     let nonce-bytes = id .before in
     let id-bytes = nonce-bytes .before in
-    rw (← id-bytes .unpack-16 .ensures, ← nonce-bytes .unpack-162 .ensures, ← id .id-from .ensures, ← nonce .nonce-from .ensures, ← call .start .ensures, ← both .both .ensures) (last .start-answered .ensures)
+    rw (
+      ← id-bytes .unpack-16 .ensures,
+      ← nonce-bytes .unpack-162 .ensures,
+      ← id .id-from .ensures,
+      ← nonce .nonce-from .ensures,
+      ← call .start .ensures,
+      ← both .both .ensures,
+    ) (last .start-answered .ensures)
 
 pub duskstall-end-entity-start-spec : {M : Type 1} → statement M
 duskstall-end-entity-start-spec = tie.close (tie.spec

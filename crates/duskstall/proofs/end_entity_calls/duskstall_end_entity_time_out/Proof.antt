@@ -8,7 +8,10 @@ returns c =
     let last = c .before .before .before .before in
     let call = last .before .before .before in
     let enrolment = call .before in
-    rw (← enrolment .unpack-enrolment .ensures, ← call .time-out .ensures) (last .end-entity-answered .ensures)
+    rw (
+      ← enrolment .unpack-enrolment .ensures,
+      ← call .time-out .ensures,
+    ) (last .end-entity-answered .ensures)
 
 pub duskstall-end-entity-time-out-spec : {M : Type 1} → statement M
 duskstall-end-entity-time-out-spec = tie.close (tie.spec

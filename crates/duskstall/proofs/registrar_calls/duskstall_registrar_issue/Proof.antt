@@ -16,7 +16,18 @@ returns c =
     let nonce-bytes = hash-bytes .before in
     let id-bytes = nonce-bytes .before in
     let table = id-bytes .before in
-    rw (← table .unpack-table .ensures, ← id-bytes .unpack-16 .ensures, ← nonce-bytes .unpack-162 .ensures, ← hash-bytes .unpack-32 .ensures, ← id .id-from .ensures, ← nonce .nonce-from .ensures, ← hash .hash-from .ensures, ← call .issue .ensures, ← both .both .ensures, ← all .both2 .ensures) (last .registrar-answered .ensures)
+    rw (
+      ← table .unpack-table .ensures,
+      ← id-bytes .unpack-16 .ensures,
+      ← nonce-bytes .unpack-162 .ensures,
+      ← hash-bytes .unpack-32 .ensures,
+      ← id .id-from .ensures,
+      ← nonce .nonce-from .ensures,
+      ← hash .hash-from .ensures,
+      ← call .issue .ensures,
+      ← both .both .ensures,
+      ← all .both2 .ensures,
+    ) (last .registrar-answered .ensures)
 
 pub duskstall-registrar-issue-spec : {M : Type 1} → statement M
 duskstall-registrar-issue-spec = tie.close (tie.spec

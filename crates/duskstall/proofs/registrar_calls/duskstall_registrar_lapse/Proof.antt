@@ -10,7 +10,12 @@ returns c =
     let id = call .before in
     let id-bytes = id .before in
     let table = id-bytes .before in
-    rw (← table .unpack-table .ensures, ← id-bytes .unpack-16 .ensures, ← id .id-from .ensures, ← call .lapse .ensures) (last .registrar-answered .ensures)
+    rw (
+      ← table .unpack-table .ensures,
+      ← id-bytes .unpack-16 .ensures,
+      ← id .id-from .ensures,
+      ← call .lapse .ensures,
+    ) (last .registrar-answered .ensures)
 
 pub duskstall-registrar-lapse-spec : {M : Type 1} → statement M
 duskstall-registrar-lapse-spec = tie.close (tie.spec

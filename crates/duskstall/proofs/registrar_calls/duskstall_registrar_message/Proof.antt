@@ -11,7 +11,13 @@ returns c =
     let verdict = nonce .before in
     let nonce-bytes = verdict .before in
     let table = nonce-bytes .before in
-    rw (← table .unpack-table .ensures, ← nonce-bytes .unpack-16 .ensures, ← nonce .nonce-from .ensures, ← verdict .verdict-of .ensures, ← call .message .ensures) (last .registrar-answered .ensures)
+    rw (
+      ← table .unpack-table .ensures,
+      ← nonce-bytes .unpack-16 .ensures,
+      ← nonce .nonce-from .ensures,
+      ← verdict .verdict-of .ensures,
+      ← call .message .ensures,
+    ) (last .registrar-answered .ensures)
 
 pub duskstall-registrar-message-spec : {M : Type 1} → statement M
 duskstall-registrar-message-spec = tie.close (tie.spec

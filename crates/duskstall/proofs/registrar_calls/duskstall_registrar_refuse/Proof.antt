@@ -13,7 +13,15 @@ returns c =
     let nonce-bytes = id .before in
     let id-bytes = nonce-bytes .before in
     let table = id-bytes .before in
-    rw (← table .unpack-table .ensures, ← id-bytes .unpack-16 .ensures, ← nonce-bytes .unpack-162 .ensures, ← id .id-from .ensures, ← nonce .nonce-from .ensures, ← call .refuse .ensures, ← both .both .ensures) (last .registrar-answered .ensures)
+    rw (
+      ← table .unpack-table .ensures,
+      ← id-bytes .unpack-16 .ensures,
+      ← nonce-bytes .unpack-162 .ensures,
+      ← id .id-from .ensures,
+      ← nonce .nonce-from .ensures,
+      ← call .refuse .ensures,
+      ← both .both .ensures,
+    ) (last .registrar-answered .ensures)
 
 pub duskstall-registrar-refuse-spec : {M : Type 1} → statement M
 duskstall-registrar-refuse-spec = tie.close (tie.spec
