@@ -1,19 +1,37 @@
 -- The rows of a table, tested one after the other and group by group: the number of the lowest that applies.
-use Prim.Native.Nat.{ℕ}
+use Prim.Native.Nat.{ℕ, zero, suc}
 use mathlib.Core.List.{List, [], _∷_, _++_}
 use mathlib.Core.Bool.{Bool, true, false, cond, _&&_}
 use mathlib.Core.Path.{_≡_, refl, sym, _∙_, ap}
 use native.Mathlib.Omega.{arith}
 use borrow.Author.Tests.{ltb-true}
 use lib.Dec.{ltb}
+use lib.ListN.{take, drop}
 use Rattle.protocol.specs.Refusals.{Row, Check, pass, stop, check}
 use Rattle.protocol.proofs.Tests.{true-false}
-use Rattle.protocol.proofs.Rows.{Lowest, check-is}
+use Rattle.protocol.proofs.Rows.{Lowest, check-is, skip}
 use Rattle.incoming.specs.Incoming.{numberOf}
 
 -- the number of the first row that applies
 pub lowest : {rs : List Row} {c : Check} → Lowest rs c → numberOf c ≡ numberOf (check rs)
 lowest l = sym (ap numberOf (check-is l))
+
+-- ## A place in the code, after some of the rows
+
+-- after the first `n` rows of the table: the other rows decide
+abbrev pub Past : ℕ → List Row → Type 0
+Past n rs = (k : Check) → Lowest (drop n rs) k → Lowest rs k
+
+skips-by : (r : Row) (rs : List Row) (c k : Check) → (c ≡ pass → Lowest rs k) → (b : Bool) → r .applies ≡ b → cond b (stop (r .number)) c ≡ pass → Lowest (r ∷ rs) k
+skips-by r rs c k ih true q e = let z : _≡_ {A = ℕ} 0 1 = cc in absurd (omega arith)
+skips-by r rs c k ih false q e = skip q (ih e)
+
+-- the first `n` rows, where none of them applies
+pub skips : (n : ℕ) (rs : List Row) → check (take n rs) ≡ pass → Past n rs
+unfolding check
+skips zero rs e k l = l
+skips (suc n) [] e k l = l
+skips (suc n) (r ∷ rs) e k l = skips-by r rs (check (take n rs)) k (λ q. skips n rs q k l) (r .applies) refl e
 
 -- ## Two groups of rows, the second after the first
 

@@ -1,4 +1,4 @@
 pub mod SlotLaws
-pub mod Chains
+pub mod RowLaws
 pub mod HostLaws
 pub mod StepLaws

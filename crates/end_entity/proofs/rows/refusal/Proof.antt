@@ -6,8 +6,8 @@ use Rattle.protocol.specs.Message.{Fields, fieldsOf}
 use Rattle.protocol.specs.Refusals.{Row}
 use Rattle.protocol.specs.EndEntityRows.{endEntityRows}
 use Rattle.protocol.proofs.Rows.{through, halt, skip}
-use Rattle.incoming.proofs.RowLaws.{lowest}
-use Rattle.end_entity.proofs.RowLaws.{Past, past-head, at-head}
+use Rattle.incoming.proofs.RowLaws.{lowest, Past}
+use Rattle.end_entity.proofs.RowLaws.{past-head, at-head}
 use Rattle.end_entity.proofs.rows.refusal.Statement.{statement}
 use Rattle.end_entity.proofs.rows.refusal.Tie as tie
 
