@@ -17,13 +17,13 @@ use Rattle.message.specs.declared.Reading.the-variants.{Clean, Refused}
 use Rattle.protocol.specs.declared.TransactionId.{TransactionId}
 use Rattle.protocol.specs.declared.Nonce.{Nonce}
 use Rattle.protocol.specs.declared.Board.{Board}
-use Rattle.protocol.specs.declared.Verdict.{Verdict}
 use Rattle.protocol.specs.declared.TransactionState.{TransactionState}
 use Rattle.protocol.specs.declared.Transaction.{Transaction}
 use Rattle.protocol.specs.declared.TransactionState.the-variants.{Asked}
 use Rattle.protocol.specs.declared.TransactionTable.{TransactionTable}
 use Rattle.protocol.specs.declared.RegistrarInput.{RegistrarInput}
 use Rattle.protocol.specs.declared.Outgoing.{Outgoing}
+use Rattle.protocol.specs.declared.RegistrarAnswer.{RegistrarAnswer}
 use Rattle.protocol.specs.Bytes.{asId, asNonce, noNonce, noHash}
 use Rattle.protocol.specs.Message.{Fields, fieldsOf, partOf, statusOr0}
 use Rattle.protocol.specs.Outgoing.{pkiConfOut}
@@ -31,7 +31,7 @@ use Rattle.protocol.specs.Table.{lookup, slotOf, freeSlot, put, freeTransaction
 use Rattle.protocol.specs.States.{isGranted, isConfirmed, settledState}
 use Rattle.protocol.specs.Refusals.{pass, stop, check, headRows, bitOf, notSixteen}
 use Rattle.protocol.specs.RegistrarRows.{isGood, registrarRows}
-use Rattle.protocol.specs.Registrar.{boardNamed, doneQuietly, doneSending, settled, confirmedAt, refusedMessage, openedTransaction, confirmed, refusedReading, registrarChecked, registrarFields, registrarRead, registrarMessage}
+use Rattle.protocol.specs.Registrar.{boardNamed, doneQuietly, doneSending, settled, confirmedAt, refusedMessage, confirmed, refusedReading, registrarChecked, registrarFields, registrarRead, registrarMessage}
 use Rattle.protocol.proofs.Tests.{passes}
 use Rattle.protocol.specs.Promises.{Applies}
 use Rattle.protocol.proofs.Rows.{least, stops}
@@ -45,64 +45,100 @@ use Rattle.registrar.proofs.HostLaws.{missing, found}
 
 -- ## The two answers that are not refusals
 
-module _ (t : TransactionTable) (p : ℕ) (u : TransactionTable) (x : Transaction) (e : u ≡ withAt t p x) where
-  pub open-is : p ≡ freeSlot (t .transactions) → doneQuietly p (u .transactions) ≡ doneQuietly (freeSlot (t .transactions)) (put (t .transactions) x)
-  open-is q = rw (e, q, free-set (t .transactions) x)
+pub open-is :
+    (t : TransactionTable) {p : ℕ} (x : Transaction) {u : TransactionTable} → u ≡ withAt t p x → p ≡ freeSlot (t .transactions) →
+    doneQuietly p (u .transactions) ≡ doneQuietly (freeSlot (t .transactions)) (put (t .transactions) x)
+open-is t x e q = rw (e, q, free-set (t .transactions) x)
 
-  pub confirm-moves : (r : Transaction) (n : Nonce) (i : TransactionId) (a : Nonce) (s : ℕ) (o : Outgoing) (w : TransactionState) → w ≡ settledState s → x ≡ settled r w a → o ≡ pkiConfOut i n a → isGranted (r .state) ≡ true → doneSending p (u .transactions) o ≡ confirmation t p r n i a s
-  confirm-moves r n i a s o w ew ex eo g = rw (g, e, ex, ew, eo)
+-- a confirmation by what the code makes for it: the acknowledgement o, the next state w
+module _ (t : TransactionTable) (p : ℕ) (r : Transaction) (n : Nonce) (i : TransactionId) (a : Nonce) (s : ℕ) {o : Outgoing} (eo : o ≡ pkiConfOut i n a) where
+  pub confirm-moves :
+      {u : TransactionTable} {x : Transaction} → u ≡ withAt t p x →
+      {w : TransactionState} → w ≡ settledState s → x ≡ settled r w a →
+      isGranted (r .state) ≡ true → doneSending p (u .transactions) o ≡ confirmation t p r n i a s
+  confirm-moves e ew ex g = rw (g, e, ex, ew, eo)
 
-pub confirm-again : (t : TransactionTable) (p : ℕ) (r : Transaction) (n : Nonce) (i : TransactionId) (a : Nonce) (s : ℕ) (o : Outgoing) → o ≡ pkiConfOut i n a → isGranted (r .state) ≡ false → repeated p t o ≡ confirmation t p r n i a s
-confirm-again t p r n i a s o eo g = rw (g, eo)
-
--- the transaction that the code opens is the definition's
-pub asked-is : (t : TransactionTable) (v : Verdict) (m : Fields) (i : TransactionId) (a : Nonce) → i ≡ asId (m .id) → a ≡ asNonce (m .senderNonce) → (b : Board) → b ≡ boardNamed v → doneQuietly (freeSlot (t .transactions)) (put (t .transactions) (record { id = i; board = b; kind = m .kind; taken = a; sent = noNonce; hash = noHash; state = Asked })) ≡ doneQuietly (freeSlot (t .transactions)) (put (t .transactions) (openedTransaction v m))
-asked-is t v m i a ei ea b eb = rw (ei, ea, eb)
+  pub confirm-again : isGranted (r .state) ≡ false → repeated p t o ≡ confirmation t p r n i a s
+  confirm-again g = rw (g, eo)
 
 -- ## After the first five rows
 
-module _ (t : TransactionTable) (d : RegistrarInput) (m : Fields) (i : TransactionId) (a : Nonce) (ci : i ≡ asId (m .id)) (ca : a ≡ asNonce (m .senderNonce)) (p : ℕ) (e : p ≡ slotOf (t .transactions) i) (l : length (t .transactions) ≡ 16) (r : Transaction) (h : r ≡ heldAt (t .transactions) p) where
+module _ (t : TransactionTable) (d : RegistrarInput) {bytes : List ℕ} {msg : Message} {i : TransactionId} {a : Nonce} (copied : Copied bytes msg i a) where
+  abbrev m : Fields
+  m = fieldsOf bytes msg
+
   abbrev ts : List Transaction
   ts = t .transactions
 
   abbrev f : Option Transaction
   f = lookup ts i
 
-  -- what the slot tells of the transaction with the id
-  pub record Tells (k : Bool) : Type 0 where
-    pub found : lookup (t .transactions) i ≡ foundBy k r
-    pub held : Option·getD (lookup (t .transactions) i) freeTransaction ≡ r
-    pub confirmed : confirmedAt (lookup (t .transactions) i) ≡ isConfirmed (r .state)
+  abbrev later : RegistrarAnswer
+  later = registrarChecked (check (laterRows ts f (d .verdict) (Option·getD f freeTransaction) m)) f t d m
 
-  free-past : 16 ≤ p → freeTransaction ≡ r
-  free-past q = sym (h ∙ getD-past ts p freeTransaction (omega arith))
+  module _ {p : ℕ} (slot : (p ≡ slotOf (t .transactions) i) × (length (t .transactions) ≡ 16)) {r : Transaction} (h : r ≡ heldAt (t .transactions) p) where
+    -- what the slot tells of the transaction with the id
+    pub record Tells (k : Bool) : Type 0 where
+      pub found : lookup (t .transactions) i ≡ foundBy k r
+      pub held : Option·getD (lookup (t .transactions) i) freeTransaction ≡ r
+      pub confirmed : confirmedAt (lookup (t .transactions) i) ≡ isConfirmed (r .state)
 
-  pub tells : (k : Bool) → k ≡ ltb p 16 → Tells k
-  tells true ek = let q : lookup ts i ≡ some r = found t i p e l r h (ltb-true p 16 (sym ek)) in record { found = q; held = rw q; confirmed = rw q }
-  tells false ek =
-      let z : 16 ≤ p = ltb-false p 16 (sym ek) in
-      let q : lookup ts i ≡ none = missing t i p e l z in
-      record { found = q; held = rw q (free-past z); confirmed = rw (q, ← free-past z) }
+    free-past : 16 ≤ p → freeTransaction ≡ r
+    free-past q = sym (h ∙ getD-past ts p freeTransaction (omega arith))
 
-  module _ (k : Bool) (ek : k ≡ ltb p 16) (n : ℕ) (en : n ≡ numberOf (check (laterRows ts (foundBy k r) (d .verdict) r m))) where
-    rows-are : check (laterRows ts f (d .verdict) (Option·getD f freeTransaction) m) ≡ check (laterRows ts (foundBy k r) (d .verdict) r m)
-    rows-are = rw (tells k ek .held, tells k ek .found)
+    tells : (k : Bool) → k ≡ ltb p 16 → Tells k
+    tells true e = let q : lookup ts i ≡ some r = found t i slot h (ltb-true p 16 (sym e)) in record { found = q; held = rw q; confirmed = rw q }
+    tells false e =
+        let z : 16 ≤ p = ltb-false p 16 (sym e) in
+        let q : lookup ts i ≡ none = missing t i slot z in
+        record { found = q; held = rw q (free-past z); confirmed = rw (q, ← free-past z) }
 
-    pub later-refused : (n ≡ 0 → ⊥) → refusal n (isConfirmed (r .state)) t (d .nonce) i a ≡ registrarChecked (check (laterRows ts f (d .verdict) (Option·getD f freeTransaction) m)) f t d m
-    unfolding registrarChecked
-    later-refused z = rw (rows-are, stops-at (check (laterRows ts (foundBy k r) (d .verdict) r m)) n en z, tells k ek .confirmed, ← ci, ← ca)
+    abbrev k : Bool
+    k = ltb p 16
 
-    passes-it : n ≡ 0 → check (laterRows ts f (d .verdict) (Option·getD f freeTransaction) m) ≡ pass
-    unfolding allPositive
-    passes-it z = rows-are ∙ passes-all (laterRows ts (foundBy k r) (d .verdict) r m) refl (sym z ∙ en)
+    told-now : Tells k
+    told-now = tells k refl
 
-    pub later-confirmed : n ≡ 0 → k ≡ true → confirmation t p r (d .nonce) i a (statusOr0 (m .status)) ≡ registrarChecked (check (laterRows ts f (d .verdict) (Option·getD f freeTransaction) m)) f t d m
-    unfolding registrarChecked
-    later-confirmed z y = rw (passes-it z, tells k ek .found, y, ← ci, ← ca, e, slot-set ts i (settled r (settledState (statusOr0 (m .status))) a))
+    module _ {n : ℕ} (en : n ≡ numberOf (check (laterRows ts (foundBy k r) (d .verdict) r m))) where
+      rows-are : check (laterRows ts f (d .verdict) (Option·getD f freeTransaction) m) ≡ check (laterRows ts (foundBy k r) (d .verdict) r m)
+      rows-are = rw (told-now .held, told-now .found)
 
-    pub later-opened : n ≡ 0 → k ≡ false → doneQuietly (freeSlot ts) (put ts (openedTransaction (d .verdict) m)) ≡ registrarChecked (check (laterRows ts f (d .verdict) (Option·getD f freeTransaction) m)) f t d m
-    unfolding registrarChecked
-    later-opened z y = rw (passes-it z, tells k ek .found, y)
+      pub later-refused : {c : Bool} → c ≡ isConfirmed (r .state) → (n ≡ 0 → ⊥) → refusal n c t (d .nonce) i a ≡ later
+      unfolding registrarChecked
+      later-refused ec z =
+          rw (
+            ec,
+            rows-are,
+            stops-at (check (laterRows ts (foundBy k r) (d .verdict) r m)) n en z,
+            told-now .confirmed,
+            ← copied .id,
+            ← copied .nonce,
+          )
+
+      passes-it : n ≡ 0 → check (laterRows ts f (d .verdict) (Option·getD f freeTransaction) m) ≡ pass
+      unfolding allPositive
+      passes-it z = rows-are ∙ passes-all (laterRows ts (foundBy k r) (d .verdict) r m) refl (sym z ∙ en)
+
+      pub later-confirmed : {s : ℕ} → s ≡ statusOr0 (m .status) → n ≡ 0 → k ≡ true → confirmation t p r (d .nonce) i a s ≡ later
+      unfolding registrarChecked
+      later-confirmed es z y =
+          rw (
+            es,
+            passes-it z,
+            told-now .found,
+            y,
+            ← copied .id,
+            ← copied .nonce,
+            slot .0,
+            slot-set ts i (settled r (settledState (statusOr0 (m .status))) a),
+          )
+
+      -- the transaction that the code opens is the definition's
+      pub later-opened :
+          {b : Board} → b ≡ boardNamed (d .verdict) → n ≡ 0 → k ≡ false →
+          doneQuietly (freeSlot ts) (put ts (record { id = i; board = b; kind = m .kind; taken = a; sent = noNonce; hash = noHash; state = Asked })) ≡ later
+      unfolding registrarChecked
+      later-opened eb z y = rw (passes-it z, told-now .found, y, copied .id, copied .nonce, eb)
 
 -- ## The first five rows
 
@@ -138,7 +174,10 @@ module _ (g : Bool) (m : Fields) where
       by true z = let q : n ≤ 5 = least (headRows g m) n refl e 5 (inr (inr (inl (refl, z)))) in absurd (omega arith)
       by false z = refl
 
-module _ (t : TransactionTable) (d : RegistrarInput) (bytes : List ℕ) (m : Message) (i : TransactionId) (ei : i .bytes ≡ sixteenOf (partOf bytes (m .fields .«transaction_id»))) (a : Nonce) (ea : a .bytes ≡ sixteenOf (partOf bytes (m .fields .«sender_nonce»))) where
+module _
+    (t : TransactionTable) (d : RegistrarInput) (bytes : List ℕ) (m : Message)
+    (i : TransactionId) (ei : i .bytes ≡ sixteenOf (partOf bytes (m .fields .«transaction_id»)))
+    (a : Nonce) (ea : a .bytes ≡ sixteenOf (partOf bytes (m .fields .«sender_nonce»))) where
   abbrev F : Fields
   F = fieldsOf bytes m
 
@@ -166,31 +205,38 @@ module _ (t : TransactionTable) (d : RegistrarInput) (bytes : List ℕ) (m : Mes
       rw (bit-plain n (confirmedAt named) (head-below good F n e), ← copied-id (has-id good F n e h), ← copied-nonce (has-nonce good F n e h))
   same-refusal n e false z = rw (z, bit-plain n (confirmedAt named) (head-below good F n e))
 
-  module _ (n : ℕ) (en : n ≡ numberOf (check (headRows (isGood (d .verdict)) (fieldsOf bytes m)))) where
+  -- the first five rows as the code asks them, with its own answer on the verdict
+  module _ {g : Bool} (eg : g ≡ isGood (d .verdict)) {n : ℕ} (en : n ≡ numberOf (check (headRows g (fieldsOf bytes m)))) where
+    number-is : n ≡ numberOf (check (headRows good F))
+    number-is = rw eg at en
+
     pub head-refused : (n ≡ 0 → ⊥) → refusal n false t (d .nonce) i a ≡ registrarFields t d (fieldsOf bytes m)
     unfolding registrarFields registrarChecked
     head-refused z =
-        let e : check (headRows good F) ≡ stop n = stops-at (check (headRows good F)) n en z in
+        let e : check (headRows good F) ≡ stop n = stops-at (check (headRows good F)) n number-is z in
         same-refusal n e (leb 6 n) refl ∙ rw (all-rows, e)
 
     head-pass : n ≡ 0 → check (headRows good F) ≡ pass
     unfolding allPositive
-    head-pass z = passes-all (headRows good F) refl (sym z ∙ en)
+    head-pass z = passes-all (headRows good F) refl (sym z ∙ number-is)
 
     pub head-copied : n ≡ 0 → Copied bytes m i a
     head-copied z = record { id = copied-id (passes 4 (headRows good F) (head-pass z)); nonce = copied-nonce (passes 5 (headRows good F) (head-pass z)) }
 
-    pub head-passed : n ≡ 0 → registrarChecked (check (laterRows (t .transactions) (lookup (t .transactions) i) (d .verdict) (Option·getD (lookup (t .transactions) i) freeTransaction) (fieldsOf bytes m))) (lookup (t .transactions) i) t d (fieldsOf bytes m) ≡ registrarFields t d (fieldsOf bytes m)
+    abbrev fs : Option Transaction
+    fs = lookup (t .transactions) i
+
+    pub head-passed : n ≡ 0 → registrarChecked (check (laterRows (t .transactions) fs (d .verdict) (Option·getD fs freeTransaction) F)) fs t d F ≡ registrarFields t d F
     unfolding registrarFields
     head-passed z = rw (all-rows, head-pass z, head-copied z .id)
 
 -- ## The reading taken apart
 
-module _ (t : TransactionTable) (d : RegistrarInput) (bytes : List ℕ) (x : Reading) (e : x ≡ readingOf bytes) where
-  pub unread : (f : Fault) → x ≡ Refused f → refusedReading (faultOf x) t ≡ registrarMessage t d bytes
+module _ (t : TransactionTable) (d : RegistrarInput) (bytes : List ℕ) {x : Reading} (e : x ≡ readingOf bytes) where
+  pub unread : {f : Fault} → x ≡ Refused f → {g : Fault} → g ≡ faultOf x → refusedReading g t ≡ registrarMessage t d bytes
   unfolding registrarMessage registrarRead
-  unread f q = rw (← e, q)
+  unread q eg = rw (eg, ← e, q)
 
-  pub clean : (m : Message) → x ≡ Clean m → registrarFields t d (fieldsOf bytes m) ≡ registrarMessage t d bytes
+  pub clean : {m : Message} → x ≡ Clean m → registrarFields t d (fieldsOf bytes m) ≡ registrarMessage t d bytes
   unfolding registrarMessage registrarRead
-  clean m q = rw (← e, q)
+  clean q = rw (← e, q)

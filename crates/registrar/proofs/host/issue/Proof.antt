@@ -1,10 +1,40 @@
 -- By the slot of the id, and the state there.
 use mathlib.Core.Path.{_∙_}
 use borrow.Author.Needs.{needs}
-use Rattle.der.proofs.Auto.{told}
-use Rattle.registrar.proofs.HostLaws.{issue-30, issue-31, issue-done}
+use Rattle.protocol.specs.Registrar.{registrarIssue}
+use Rattle.registrar.proofs.HostLaws.{sending, no-slot, not-allowed, allowed}
 use Rattle.registrar.proofs.host.issue.Statement.{statement}
 use Rattle.registrar.proofs.host.issue.Tie as tie
+
+returns : tie.Need-returns
+unfolding registrarIssue
+returns c =
+    let tested = c .before .before in
+    let held = tested .before in
+    let found = held .before .before in
+    let args = found .before .args in
+    c .respond .ensures
+    ∙ sending (args .table) (args .id) (found .find .ensures) (held .transaction-at .result) _ _ _ _
+    ∙ allowed (args .table) (args .id) (found .find .ensures) _ _
+    (held .transaction-at .ensures) (held .before .if1 .taken) (tested .is-asked .ensures) (c .before .if2 .taken)
+
+returns-2 : tie.Need-returns-2
+unfolding registrarIssue
+returns-2 c =
+    let tested = c .before .before in
+    let held = tested .before in
+    let found = held .before .before in
+    let args = found .before .args in
+    c .refused-quietly .ensures
+    ∙ not-allowed (args .table) (args .id) (found .find .ensures) _ _
+    (held .transaction-at .ensures) (held .before .if1 .taken) (tested .is-asked .ensures) (c .before .if2 .left)
+
+returns-3 : tie.Need-returns-3
+unfolding registrarIssue
+returns-3 c =
+    let found = c .before .before in
+    let args = found .before .args in
+    c .refused-quietly2 .ensures ∙ no-slot (args .table) (args .id) (found .find .ensures) _ _ (c .before .if1 .left)
 
 pub issue-spec : {M : Type 1} → statement M
 issue-spec = tie.close (tie.spec
@@ -12,8 +42,8 @@ issue-spec = tie.close (tie.spec
     (λ c κs. search needs)
     (λ c κs. search needs)
     (λ c κs. search needs)
-    (λ c. c .respond .ensures ∙ issue-done (c .before .before .before .before .before .before .args .table) (c .before .before .before .before .before .before .args .id) (c .before .before .before .before .before .find .result) (c .before .before .before .before .before .find .ensures .0) (c .before .before .before .before .before .find .ensures .1) (c .before .before .before .before .before .before .args .nonce) (c .before .before .before .before .before .before .args .hash) (c .before .before .before .transaction-at .result) (c .before .before .before .transaction-at .ensures) (c .before .before .before .before .if1 .taken) (told (c .before .before .is-asked .ensures) (c .before .if2 .taken)))
+    returns
     (λ c κs. search needs)
-    (λ c. c .refused-quietly .ensures ∙ issue-31 (c .before .before .before .before .before .before .args .table) (c .before .before .before .before .before .before .args .id) (c .before .before .before .before .before .find .result) (c .before .before .before .before .before .find .ensures .0) (c .before .before .before .before .before .find .ensures .1) (c .before .before .before .before .before .before .args .nonce) (c .before .before .before .before .before .before .args .hash) (c .before .before .before .transaction-at .result) (c .before .before .before .transaction-at .ensures) (c .before .before .before .before .if1 .taken) (told (c .before .before .is-asked .ensures) (c .before .if2 .left)))
+    returns-2
     (λ c κs. search needs)
-    (λ c. c .refused-quietly2 .ensures ∙ issue-30 (c .before .before .before .args .table) (c .before .before .before .args .id) (c .before .before .find .result) (c .before .before .find .ensures .0) (c .before .before .find .ensures .1) (c .before .before .before .args .nonce) (c .before .before .before .args .hash) (c .before .if1 .left)))
+    returns-3)

@@ -6,6 +6,27 @@ use Rattle.registrar.proofs.StepLaws.{confirm-moves, confirm-again}
 use Rattle.registrar.proofs.step.confirm.Statement.{statement}
 use Rattle.registrar.proofs.step.confirm.Tie as tie
 
+returns : tie.Need-returns
+returns c =
+    let placed = c .before in
+    let moved = placed .before in
+    let next = moved .before in
+    let granted = next .before in
+    let made = granted .before .before in
+    let args = made .before .args in
+    c .done-sending .ensures
+    ∙ confirm-moves (args .table) _ (args .held) _ _ _ (args .status) (made .pki-conf-out .ensures)
+    (placed .with-at .ensures) (next .settled-state .ensures) (moved .settled .ensures)
+    (told (granted .before .is-granted .ensures) (granted .if1 .taken))
+
+returns-2 : tie.Need-returns-2
+returns-2 c =
+    let made = c .before .before .before in
+    let args = made .before .args in
+    c .again .ensures
+    ∙ confirm-again (args .table) _ (args .held) _ _ _ (args .status) (made .pki-conf-out .ensures)
+    (told (c .before .before .is-granted .ensures) (c .before .if1 .left))
+
 pub confirm-spec : {M : Type 1} → statement M
 confirm-spec = tie.close (tie.spec
     (λ c κs. search needs)
@@ -14,16 +35,6 @@ confirm-spec = tie.close (tie.spec
     (λ c κs. search needs)
     (λ c κs. search needs)
     (λ c κs. search needs)
-    (λ c.
-    let g = c .before .before .before .before in
-    let a = g .before .before .before .args in
-    c .done-sending .ensures
-    ∙ confirm-moves (a .table) (a .slot .0) (c .before .with-at .result) (c .before .before .settled .result) (c .before .with-at .ensures)
-    (a .held) (a .fresh) (a .id) (a .answered) (a .status) (g .before .before .pki-conf-out .result) (c .before .before .before .settled-state .result)
-    (c .before .before .before .settled-state .ensures) (c .before .before .settled .ensures) (g .before .before .pki-conf-out .ensures) (told (g .before .is-granted .ensures) (g .if1 .taken)))
+    returns
     (λ c κs. search needs)
-    (λ c.
-    let a = c .before .before .before .before .args in
-    c .again .ensures
-    ∙ confirm-again (a .table) (a .slot .0) (a .held) (a .fresh) (a .id) (a .answered) (a .status) (c .before .before .before .pki-conf-out .result)
-    (c .before .before .before .pki-conf-out .ensures) (told (c .before .before .is-granted .ensures) (c .before .if1 .left))))
+    returns-2)

@@ -5,9 +5,14 @@ use Rattle.registrar.proofs.StepLaws.{open-is}
 use Rattle.registrar.proofs.step.open.Statement.{statement}
 use Rattle.registrar.proofs.step.open.Tie as tie
 
+returns : tie.Need-returns
+returns c =
+    let free = c .before .before in
+    c .done-quietly .ensures ∙ open-is (free .before .args .table) _ (c .before .with-at .ensures) (free .free-slot .ensures .0)
+
 pub open-spec : {M : Type 1} → statement M
 open-spec = tie.close (tie.spec
     (λ c κs. search needs)
     (λ c κs. search needs)
     (λ c κs. search needs)
-    (λ c. c .done-quietly .ensures ∙ open-is (c .before .before .before .args .table) (c .before .before .free-slot .result) (c .before .with-at .result) _ (c .before .with-at .ensures) (c .before .before .free-slot .ensures .0)))
+    returns)

@@ -1,13 +1,41 @@
 -- The first five rows refuse it, or its id and nonce are whole.
-use mathlib.Core.Path.{_∙_, ap}
-use mathlib.Core.Bool.{Bool}
+use mathlib.Core.Path.{_∙_}
 use borrow.Author.Needs.{needs}
-use Rattle.protocol.specs.Message.{fieldsOf}
-use Rattle.protocol.specs.Refusals.{check, headRows}
-use Rattle.incoming.specs.Incoming.{numberOf}
 use Rattle.registrar.proofs.StepLaws.{head-refused, head-copied, head-passed}
 use Rattle.registrar.proofs.step.step.Statement.{statement}
 use Rattle.registrar.proofs.step.step.Tie as tie
+
+returns : tie.Need-returns
+returns c =
+    let rows = c .before .before in
+    let good = rows .before in
+    let nonce = good .before in
+    let id = nonce .before in
+    let args = id .before .before .before .args in
+    c .refused-message .ensures
+    ∙ head-refused (args .table) (args .input) _ (args .m) _ (id .id-of .ensures) _ (nonce .nonce-of .ensures)
+    (good .is-good .ensures) (rows .head-refusal .ensures) (c .before .if1 .taken)
+
+headed-requires : tie.Need-headed-requires
+headed-requires c κs =
+    let rows = c .before in
+    let good = rows .before in
+    let nonce = good .before in
+    let id = nonce .before in
+    let args = id .before .before .before .args in
+    head-copied (args .table) (args .input) _ (args .m) _ (id .id-of .ensures) _ (nonce .nonce-of .ensures)
+    (good .is-good .ensures) (rows .head-refusal .ensures) (c .if1 .left)
+
+returns-2 : tie.Need-returns-2
+returns-2 c =
+    let rows = c .before .before in
+    let good = rows .before in
+    let nonce = good .before in
+    let id = nonce .before in
+    let args = id .before .before .before .args in
+    c .headed .ensures
+    ∙ head-passed (args .table) (args .input) _ (args .m) _ (id .id-of .ensures) _ (nonce .nonce-of .ensures)
+    (good .is-good .ensures) (rows .head-refusal .ensures) (c .before .if1 .left)
 
 pub step-spec : {M : Type 1} → statement M
 step-spec = tie.close (tie.spec
@@ -16,23 +44,6 @@ step-spec = tie.close (tie.spec
     (λ c κs. search needs)
     (λ c κs. search needs)
     (λ c κs. search needs)
-    (λ c.
-    let n = c .before .before in
-    let i = n .before .before .before in
-    let a = i .before .before .before .args in
-    c .refused-message .ensures
-    ∙ head-refused (a .table) (a .input) (a .bytes .now) (a .m) (i .id-of .result) (i .id-of .ensures) (n .before .before .nonce-of .result) (n .before .before .nonce-of .ensures)
-    (n .head-refusal .result) (n .head-refusal .ensures ∙ ap (λ (g : Bool). numberOf (check (headRows g (fieldsOf (a .bytes .now) (a .m))))) (n .before .is-good .ensures)) (c .before .if1 .taken))
-    (λ c κs.
-    let n = c .before in
-    let i = n .before .before .before in
-    let a = i .before .before .before .args in
-    head-copied (a .table) (a .input) (a .bytes .now) (a .m) (i .id-of .result) (i .id-of .ensures) (n .before .before .nonce-of .result) (n .before .before .nonce-of .ensures)
-    (n .head-refusal .result) (n .head-refusal .ensures ∙ ap (λ (g : Bool). numberOf (check (headRows g (fieldsOf (a .bytes .now) (a .m))))) (n .before .is-good .ensures)) (c .if1 .left))
-    (λ c.
-    let n = c .before .before in
-    let i = n .before .before .before in
-    let a = i .before .before .before .args in
-    c .headed .ensures
-    ∙ head-passed (a .table) (a .input) (a .bytes .now) (a .m) (i .id-of .result) (i .id-of .ensures) (n .before .before .nonce-of .result) (n .before .before .nonce-of .ensures)
-    (n .head-refusal .result) (n .head-refusal .ensures ∙ ap (λ (g : Bool). numberOf (check (headRows g (fieldsOf (a .bytes .now) (a .m))))) (n .before .is-good .ensures)) (c .before .if1 .left)))
+    returns
+    headed-requires
+    returns-2)
