@@ -1,10 +1,39 @@
+-- The calls one after the other, as the definition names them.
 use Rattle.der.proofs.Auto.{tests}
 use Rattle.grammar.specs.Entries.{statusEntry}
 use Rattle.grammar.proofs.entries.cert_status.Statement.{statement}
 use Rattle.grammar.proofs.entries.cert_status.Tie as tie
 
-pub cert-status-spec : {M : Type 1} → statement M
+returns : tie.Need-returns
 unfolding statusEntry
+returns c =
+    let found-span = c .before in
+    let value = found-span .before in
+    let span-from = value .before in
+    let leave = span-from .before in
+    let done = leave .before in
+    let typed-field = done .before in
+    let maybe-status = typed-field .before in
+    let small = maybe-status .before in
+    let need2 = small .before in
+    let enter = need2 .before in
+    let need = enter .before in
+    simp (
+      c .found-span2 .ensures,
+      found-span .found-span .ensures,
+      ← value .value .ensures,
+      span-from .span-from .ensures,
+      ← leave .leave .ensures,
+      ← done .done .ensures,
+      ← typed-field .typed-field .ensures,
+      ← maybe-status .maybe-status .ensures,
+      ← small .small .ensures,
+      ← need2 .need2 .ensures,
+      ← enter .enter .ensures,
+      ← need .need .ensures,
+    )
+
+pub cert-status-spec : {M : Type 1} → statement M
 cert-status-spec = tie.close (tie.spec
     (λ c κs. search tests)
     (λ c κs. search tests)
@@ -18,4 +47,4 @@ cert-status-spec = tie.close (tie.spec
     (λ c κs. search tests)
     (λ c κs. search tests)
     (λ c κs. search tests)
-    (λ c. simp (c .found-span2 .ensures, c .before .found-span .ensures, ← c .before .before .value .ensures, c .before .before .before .span-from .ensures, ← c .before .before .before .before .leave .ensures, ← c .before .before .before .before .before .done .ensures, ← c .before .before .before .before .before .before .typed-field .ensures, ← c .before .before .before .before .before .before .before .maybe-status .ensures, ← c .before .before .before .before .before .before .before .before .small .ensures, ← c .before .before .before .before .before .before .before .before .before .need2 .ensures, ← c .before .before .before .before .before .before .before .before .before .before .enter .ensures, ← c .before .before .before .before .before .before .before .before .before .before .before .need .ensures)))
+    returns)

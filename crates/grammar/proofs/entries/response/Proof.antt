@@ -1,10 +1,37 @@
+-- The calls one after the other, as the definition names them.
 use Rattle.der.proofs.Auto.{tests}
 use Rattle.grammar.specs.Entries.{responseOf}
 use Rattle.grammar.proofs.entries.response.Statement.{statement}
 use Rattle.grammar.proofs.entries.response.Tie as tie
 
-pub response-spec : {M : Type 1} → statement M
+returns : tie.Need-returns
 unfolding responseOf
+returns c =
+    let value = c .before in
+    let span-from = value .before in
+    let leave = span-from .before in
+    let done = leave .before in
+    let maybe = done .before in
+    let maybe-key-pair = maybe .before in
+    let status-info = maybe-key-pair .before in
+    let small = status-info .before in
+    let enter = small .before in
+    let need = enter .before in
+    simp (
+      c .found-span .ensures,
+      ← value .value .ensures,
+      span-from .span-from .ensures,
+      ← leave .leave .ensures,
+      ← done .done .ensures,
+      ← maybe .maybe .ensures,
+      ← maybe-key-pair .maybe-key-pair .ensures,
+      ← status-info .status-info .ensures,
+      ← small .small .ensures,
+      ← enter .enter .ensures,
+      ← need .need .ensures,
+    )
+
+pub response-spec : {M : Type 1} → statement M
 response-spec = tie.close (tie.spec
     (λ c κs. search tests)
     (λ c κs. search tests)
@@ -17,4 +44,4 @@ response-spec = tie.close (tie.spec
     (λ c κs. search tests)
     (λ c κs. search tests)
     (λ c κs. search tests)
-    (λ c. simp (c .found-span .ensures, ← c .before .value .ensures, c .before .before .span-from .ensures, ← c .before .before .before .leave .ensures, ← c .before .before .before .before .done .ensures, ← c .before .before .before .before .before .maybe .ensures, ← c .before .before .before .before .before .before .maybe-key-pair .ensures, ← c .before .before .before .before .before .before .before .status-info .ensures, ← c .before .before .before .before .before .before .before .before .small .ensures, ← c .before .before .before .before .before .before .before .before .before .enter .ensures, ← c .before .before .before .before .before .before .before .before .before .before .need .ensures)))
+    returns)

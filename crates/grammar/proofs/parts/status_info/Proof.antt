@@ -1,10 +1,31 @@
+-- The calls one after the other, as the definition names them.
 use Rattle.der.proofs.Auto.{tests}
 use Rattle.grammar.specs.Parts.{statusOf}
 use Rattle.grammar.proofs.parts.status_info.Statement.{statement}
 use Rattle.grammar.proofs.parts.status_info.Tie as tie
 
-pub status-info-spec : {M : Type 1} → statement M
+returns : tie.Need-returns
 unfolding statusOf
+returns c =
+    let leave = c .before in
+    let done = leave .before in
+    let fail-info = done .before in
+    let maybe-text = fail-info .before in
+    let small = maybe-text .before in
+    let enter = small .before in
+    let need = enter .before in
+    simp (
+      ← c .value .ensures,
+      ← leave .leave .ensures,
+      ← done .done .ensures,
+      ← fail-info .fail-info .ensures,
+      ← maybe-text .maybe-text .ensures,
+      ← small .small .ensures,
+      ← enter .enter .ensures,
+      ← need .need .ensures,
+    )
+
+pub status-info-spec : {M : Type 1} → statement M
 status-info-spec = tie.close (tie.spec
     (λ c κs. search tests)
     (λ c κs. search tests)
@@ -14,4 +35,4 @@ status-info-spec = tie.close (tie.spec
     (λ c κs. search tests)
     (λ c κs. search tests)
     (λ c κs. search tests)
-    (λ c. search (tests, ← c .value .ensures, ← c .before .leave .ensures, ← c .before .before .done .ensures, ← c .before .before .before .fail-info .ensures, ← c .before .before .before .before .maybe-text .ensures, ← c .before .before .before .before .before .small .ensures, ← c .before .before .before .before .before .before .enter .ensures, ← c .before .before .before .before .before .before .before .need .ensures)))
+    returns)

@@ -29,29 +29,75 @@ module _ (m : List ℕ) (c : Cursor) (kind : ℕ) where
   unfolding contentsOf
   of-response e = one-of (λ (k : ℕ). contentsOf m k c ≡ responsesOf m c) kind 1 3 8 refl refl refl e
 
-  of-neither : (eqb kind 0 || (eqb kind 2 || eqb kind 7)) ≡ false → (eqb kind 1 || (eqb kind 3 || eqb kind 8)) ≡ false → contentsOf m kind c ≡ cond (eqb kind 23) (errorOf m c) (cond (eqb kind 24) (confirmationsOf m c) (otherOf m kind c))
+  of-neither :
+      (eqb kind 0 || (eqb kind 2 || eqb kind 7)) ≡ false → (eqb kind 1 || (eqb kind 3 || eqb kind 8)) ≡ false →
+      contentsOf m kind c ≡ cond (eqb kind 23) (errorOf m c) (cond (eqb kind 24) (confirmationsOf m c) (otherOf m kind c))
   unfolding contentsOf
   of-neither e f =
       let e2 = or-false-right (eqb kind 0) (eqb kind 2 || eqb kind 7) e in
       let f3 = or-false-right (eqb kind 1) (eqb kind 3 || eqb kind 8) f in
-      simp (or-false-left (eqb kind 0) (eqb kind 2 || eqb kind 7) e, or-false-left (eqb kind 2) (eqb kind 7) e2, or-false-right (eqb kind 2) (eqb kind 7) e2, or-false-left (eqb kind 1) (eqb kind 3 || eqb kind 8) f, or-false-left (eqb kind 3) (eqb kind 8) f3, or-false-right (eqb kind 3) (eqb kind 8) f3)
+      simp (
+        or-false-left (eqb kind 0) (eqb kind 2 || eqb kind 7) e,
+        or-false-left (eqb kind 2) (eqb kind 7) e2,
+        or-false-right (eqb kind 2) (eqb kind 7) e2,
+        or-false-left (eqb kind 1) (eqb kind 3 || eqb kind 8) f,
+        or-false-left (eqb kind 3) (eqb kind 8) f3,
+        or-false-right (eqb kind 3) (eqb kind 8) f3,
+      )
+
+returns : tie.Need-returns
+returns c =
+    let request = c .before .before in
+    let a = request .before .before .args in
+    c .requests .ensures ∙ sym (of-request (a .m .now) (a .c) (a .kind) (told (request .is-request .ensures) (c .before .if1 .taken)))
+
+returns-2 : tie.Need-returns-2
+returns-2 c =
+    let response = c .before .before in
+    let a = response .before .before .before .before .args in
+    c .responses .ensures ∙ sym (of-response (a .m .now) (a .c) (a .kind) (told (response .is-response .ensures) (c .before .if2 .taken)))
+
+returns-3 : tie.Need-returns-3
+returns-3 c =
+    let neither = c .before .before in
+    let response = neither .before in
+    let request = response .before .before in
+    let a = request .before .before .args in
+    let not-request = told (request .is-request .ensures) (response .before .if1 .left) in
+    let not-response = told (response .is-response .ensures) (neither .if2 .left) in
+    search (tests, ← c .error .ensures, of-neither (a .m .now) (a .c) (a .kind) not-request not-response)
+
+returns-4 : tie.Need-returns-4
+returns-4 c =
+    let neither = c .before .before .before in
+    let response = neither .before in
+    let request = response .before .before in
+    let a = request .before .before .args in
+    let not-request = told (request .is-request .ensures) (response .before .if1 .left) in
+    let not-response = told (response .is-response .ensures) (neither .if2 .left) in
+    search (tests, ← c .confirmations .ensures, of-neither (a .m .now) (a .c) (a .kind) not-request not-response)
+
+returns-5 : tie.Need-returns-5
+returns-5 c =
+    let neither = c .before .before .before in
+    let response = neither .before in
+    let request = response .before .before in
+    let a = request .before .before .args in
+    let not-request = told (request .is-request .ensures) (response .before .if1 .left) in
+    let not-response = told (response .is-response .ensures) (neither .if2 .left) in
+    search (tests, ← c .other .ensures, of-neither (a .m .now) (a .c) (a .kind) not-request not-response)
 
 pub contents-of-spec : {M : Type 1} → statement M
 contents-of-spec = tie.close (tie.spec
     (λ c κs. search tests)
     (λ c κs. search tests)
-    (λ c. let a = c .before .before .before .before .args in
-    c .requests .ensures ∙ sym (of-request (a .m .now) (a .c) (a .kind) (told (c .before .before .is-request .ensures) (c .before .if1 .taken))))
+    returns
     (λ c κs. search tests)
     (λ c κs. search tests)
-    (λ c. let a = c .before .before .before .before .before .before .args in
-    c .responses .ensures ∙ sym (of-response (a .m .now) (a .c) (a .kind) (told (c .before .before .is-response .ensures) (c .before .if2 .taken))))
+    returns-2
     (λ c κs. search tests)
-    (λ c. let a = c .before .before .before .before .before .before .before .args in
-    search (tests, ← c .error .ensures, of-neither (a .m .now) (a .c) (a .kind) (told (c .before .before .before .before .before .is-request .ensures) (c .before .before .before .before .if1 .left)) (told (c .before .before .before .is-response .ensures) (c .before .before .if2 .left))))
+    returns-3
     (λ c κs. search tests)
-    (λ c. let a = c .before .before .before .before .before .before .before .before .args in
-    search (tests, ← c .confirmations .ensures, of-neither (a .m .now) (a .c) (a .kind) (told (c .before .before .before .before .before .before .is-request .ensures) (c .before .before .before .before .before .if1 .left)) (told (c .before .before .before .before .is-response .ensures) (c .before .before .before .if2 .left))))
+    returns-4
     (λ c κs. search tests)
-    (λ c. let a = c .before .before .before .before .before .before .before .before .args in
-    search (tests, ← c .other .ensures, of-neither (a .m .now) (a .c) (a .kind) (told (c .before .before .before .before .before .before .is-request .ensures) (c .before .before .before .before .before .if1 .left)) (told (c .before .before .before .before .is-response .ensures) (c .before .before .before .if2 .left)))))
+    returns-5)

@@ -1,10 +1,37 @@
+-- The calls one after the other, as the definition names them.
 use Rattle.der.proofs.Auto.{tests}
 use Rattle.grammar.specs.Body.{responsesOf}
 use Rattle.grammar.proofs.pki_body.responses.Statement.{statement}
 use Rattle.grammar.proofs.pki_body.responses.Tie as tie
 
-pub responses-spec : {M : Type 1} → statement M
+returns : tie.Need-returns
 unfolding responsesOf
+returns c =
+    let found-span = c .before in
+    let leave2 = found-span .before in
+    let done = leave2 .before in
+    let leave = done .before in
+    let read-entries = leave .before in
+    let enter2 = read-entries .before in
+    let need2 = enter2 .before in
+    let sequence-field = need2 .before in
+    let enter = sequence-field .before in
+    let need = enter .before in
+    simp (
+      c .from-entries .ensures,
+      found-span .found-span .ensures,
+      ← leave2 .leave2 .ensures,
+      ← done .done .ensures,
+      ← leave .leave .ensures,
+      ← read-entries .read-entries .ensures,
+      ← enter2 .enter2 .ensures,
+      ← need2 .need2 .ensures,
+      ← sequence-field .sequence-field .ensures,
+      ← enter .enter .ensures,
+      ← need .need .ensures,
+    )
+
+pub responses-spec : {M : Type 1} → statement M
 responses-spec = tie.close (tie.spec
     (λ c κs. search tests)
     (λ c κs. search tests)
@@ -17,4 +44,4 @@ responses-spec = tie.close (tie.spec
     (λ c κs. search tests)
     (λ c κs. search tests)
     (λ c κs. search tests)
-    (λ c. simp (c .from-entries .ensures, c .before .found-span .ensures, ← c .before .before .leave2 .ensures, ← c .before .before .before .done .ensures, ← c .before .before .before .before .leave .ensures, ← c .before .before .before .before .before .read-entries .ensures, ← c .before .before .before .before .before .before .enter2 .ensures, ← c .before .before .before .before .before .before .before .need2 .ensures, ← c .before .before .before .before .before .before .before .before .sequence-field .ensures, ← c .before .before .before .before .before .before .before .before .before .enter .ensures, ← c .before .before .before .before .before .before .before .before .before .before .need .ensures)))
+    returns)

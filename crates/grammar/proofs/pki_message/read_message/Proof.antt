@@ -25,6 +25,37 @@ whole : (m : List ℕ) {z s c p x d l q : Cursor} {h : HeaderRead} {b : BodyRead
 unfolding messageOf
 whole m z s c h b p x d l q i j k n = simp (i, j, k, n, q, l, d, x, p, b, h, c, s, z)
 
+returns : tie.Need-returns
+returns c =
+    let outer-span = c .before in
+    let whole-span2 = outer-span .before in
+    let whole-span = whole-span2 .before in
+    let done2 = whole-span .before .before .before in
+    let leave = done2 .before in
+    let done = leave .before in
+    let sequence-field = done .before in
+    let field = sequence-field .before in
+    let read-body = field .before in
+    let read-header = read-body .before in
+    let enter = read-header .before in
+    let need = enter .before in
+    let start-at = need .before in
+    whole _
+    (start-at .start-at .ensures)
+    (need .need .ensures)
+    (enter .enter .ensures)
+    (read-header .read-header .ensures)
+    (read-body .read-body .ensures)
+    (field .field .ensures)
+    (sequence-field .sequence-field .ensures)
+    (done .done .ensures)
+    (leave .leave .ensures)
+    (done2 .done2 .ensures)
+    (whole-span .whole-span .ensures)
+    (whole-span2 .whole-span2 .ensures)
+    (outer-span .outer-span .ensures)
+    (c .outer-span2 .ensures)
+
 pub read-message-spec : {M : Type 1} → statement M
 read-message-spec = tie.close (tie.spec
     (λ c κs. tt)
@@ -41,4 +72,4 @@ read-message-spec = tie.close (tie.spec
     (λ c κs. tt)
     (λ c κs. tt)
     (λ c κs. tt)
-    (λ c. whole _ (c .before .before .before .before .before .before .before .before .before .before .before .before .before .before .before .start-at .ensures) (c .before .before .before .before .before .before .before .before .before .before .before .before .before .before .need .ensures) (c .before .before .before .before .before .before .before .before .before .before .before .before .before .enter .ensures) (c .before .before .before .before .before .before .before .before .before .before .before .before .read-header .ensures) (c .before .before .before .before .before .before .before .before .before .before .before .read-body .ensures) (c .before .before .before .before .before .before .before .before .before .before .field .ensures) (c .before .before .before .before .before .before .before .before .before .sequence-field .ensures) (c .before .before .before .before .before .before .before .before .done .ensures) (c .before .before .before .before .before .before .before .leave .ensures) (c .before .before .before .before .before .before .done2 .ensures) (c .before .before .before .whole-span .ensures) (c .before .before .whole-span2 .ensures) (c .before .outer-span .ensures) (c .outer-span2 .ensures)))
+    returns)
