@@ -2,20 +2,40 @@
 use mathlib.Core.Bool.{Bool, true, false, cond}
 use mathlib.Core.Path.{_≡_, refl, sym, ap, _∙_}
 use Prim.Native.Nat.{ℕ}
+use mathlib.Core.List.{List, [], _∷_, _++_}
+use lib.ListN.{take, drop}
 use borrow.Author.Needs.{needs}
 use borrow.Author.Tests.{ne-eqb}
-use Rattle.protocol.specs.Refusals.{bitOf}
+use Rattle.protocol.specs.Refusals.{NumberBit, bits, bitIn, bitOf}
 use Rattle.incoming.proofs.rows.bit_of.Statement.{statement}
 use Rattle.incoming.proofs.rows.bit_of.Tie as tie
+
+-- as the last arm of a match says it: beside P, that n is none of the numbers
+abbrev Other : (P : Type 0) (n : ℕ) → List NumberBit → Type 0
+Other P n [] = P
+Other P n (b ∷ bs) = Other (P × (n ≡ b .number → ⊥)) n bs
+
+beside : (P : Type 0) (n : ℕ) (bs : List NumberBit) → Other P n bs → P
+beside P n [] o = o
+beside P n (b ∷ bs) o = beside (P × (n ≡ b .number → ⊥)) n bs o .0
+
+skips : (P : Type 0) (n : ℕ) (bs cs : List NumberBit) → Other P n bs → bitIn n (bs ++ cs) ≡ bitIn n cs
+skips P n [] cs o = refl
+skips P n (b ∷ bs) cs o =
+    let not-it : P × (n ≡ b .number → ⊥) = beside (P × (n ≡ b .number → ⊥)) n bs o in
+    rw (ne-eqb n (b .number) (not-it .1)) (skips (P × (n ≡ b .number → ⊥)) n bs cs o)
 
 cond-same : {A : Type 0} (t : Bool) (x : A) → cond t x x ≡ x
 cond-same true x = refl
 cond-same false x = refl
 
+-- the table's last four numbers have no bit, like those that it does not name
 returns-rest : tie.Need-returns-21
 unfolding bitOf
 returns-rest c =
-    rw (ne-eqb (c .before .args .number) 1 (c .match .rest .0 .0 .0 .0 .0 .0 .0 .0 .0 .0 .0 .0 .0 .0 .0 .0 .0 .0 .0 .1), ne-eqb (c .before .args .number) 2 (c .match .rest .0 .0 .0 .0 .0 .0 .0 .0 .0 .0 .0 .0 .0 .0 .0 .0 .0 .0 .1), ne-eqb (c .before .args .number) 3 (c .match .rest .0 .0 .0 .0 .0 .0 .0 .0 .0 .0 .0 .0 .0 .0 .0 .0 .0 .1), ne-eqb (c .before .args .number) 4 (c .match .rest .0 .0 .0 .0 .0 .0 .0 .0 .0 .0 .0 .0 .0 .0 .0 .0 .1), ne-eqb (c .before .args .number) 5 (c .match .rest .0 .0 .0 .0 .0 .0 .0 .0 .0 .0 .0 .0 .0 .0 .0 .1), ne-eqb (c .before .args .number) 6 (c .match .rest .0 .0 .0 .0 .0 .0 .0 .0 .0 .0 .0 .0 .0 .0 .1), ne-eqb (c .before .args .number) 7 (c .match .rest .0 .0 .0 .0 .0 .0 .0 .0 .0 .0 .0 .0 .0 .1), ne-eqb (c .before .args .number) 8 (c .match .rest .0 .0 .0 .0 .0 .0 .0 .0 .0 .0 .0 .0 .1), ne-eqb (c .before .args .number) 9 (c .match .rest .0 .0 .0 .0 .0 .0 .0 .0 .0 .0 .0 .1), ne-eqb (c .before .args .number) 10 (c .match .rest .0 .0 .0 .0 .0 .0 .0 .0 .0 .0 .1), ne-eqb (c .before .args .number) 11 (c .match .rest .0 .0 .0 .0 .0 .0 .0 .0 .0 .1), ne-eqb (c .before .args .number) 12 (c .match .rest .0 .0 .0 .0 .0 .0 .0 .0 .1), ne-eqb (c .before .args .number) 13 (c .match .rest .0 .0 .0 .0 .0 .0 .0 .1), ne-eqb (c .before .args .number) 14 (c .match .rest .0 .0 .0 .0 .0 .0 .1), ne-eqb (c .before .args .number) 15 (c .match .rest .0 .0 .0 .0 .0 .1), ne-eqb (c .before .args .number) 16 (c .match .rest .0 .0 .0 .0 .1), ne-eqb (c .before .args .number) 17 (c .match .rest .0 .0 .0 .1), ne-eqb (c .before .args .number) 18 (c .match .rest .0 .0 .1), ne-eqb (c .before .args .number) 19 (c .match .rest .0 .1), ne-eqb (c .before .args .number) 20 (c .match .rest .1), cond-same, cond-same, cond-same, cond-same)
+    let args = c .before .args in
+    let table = bits (args .confirmed) in
+    sym (skips Unit (args .number) (take 20 table) (drop 20 table) (c .match .rest) ∙ rw (cond-same, cond-same, cond-same, cond-same))
 
 pub bit-of-spec : {M : Type 1} → statement M
 unfolding bitOf
