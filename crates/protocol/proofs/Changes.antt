@@ -32,7 +32,10 @@ unchanged t p = record { others = λ q d. refl; one = λ u. u; unset = λ z. z }
 zero-suc : {A : Type 0} (n : ℕ) → zero ≡ suc n → A
 zero-suc n e = absurd (omega arith)
 
-replace-others-at : (i : TransactionId) (x r : Transaction) (rs : List Transaction) (q : ℕ) → ((p : ℕ) → (p ≡ slotOf rs i → ⊥) → getElem? (replace rs i x) p ≡ getElem? rs p) → (b : Bool) → (q ≡ cond b 0 (suc (slotOf rs i)) → ⊥) → getElem? (cond b (x ∷ rs) (r ∷ replace rs i x)) q ≡ getElem? (r ∷ rs) q
+replace-others-at :
+    (i : TransactionId) (x r : Transaction) (rs : List Transaction) (q : ℕ) →
+    ((p : ℕ) → (p ≡ slotOf rs i → ⊥) → getElem? (replace rs i x) p ≡ getElem? rs p) → (b : Bool) → (q ≡ cond b 0 (suc (slotOf rs i)) → ⊥) →
+    getElem? (cond b (x ∷ rs) (r ∷ replace rs i x)) q ≡ getElem? (r ∷ rs) q
 replace-others-at i x r rs zero ih true d = absurd (d refl)
 replace-others-at i x r rs (suc q) ih true d = refl
 replace-others-at i x r rs zero ih false d = refl
@@ -44,7 +47,10 @@ replace-others [] i x q d = refl
 replace-others (r ∷ rs) i x q d = replace-others-at i x r rs q (λ p. replace-others rs i x p) (isFor i r) d
 
 -- what stands in a slot afterwards is the new transaction, or stood there before
-replace-new-at : (i : TransactionId) (x r : Transaction) (rs : List Transaction) (q : ℕ) (y : Transaction) → ((p : ℕ) → getElem? (replace rs i x) p ≡ some y → (y ≡ x) ⊎ (getElem? rs p ≡ some y)) → (b : Bool) → getElem? (cond b (x ∷ rs) (r ∷ replace rs i x)) q ≡ some y → (y ≡ x) ⊎ (getElem? (r ∷ rs) q ≡ some y)
+replace-new-at :
+    (i : TransactionId) (x r : Transaction) (rs : List Transaction) (q : ℕ) (y : Transaction) →
+    ((p : ℕ) → getElem? (replace rs i x) p ≡ some y → (y ≡ x) ⊎ (getElem? rs p ≡ some y)) → (b : Bool) →
+    getElem? (cond b (x ∷ rs) (r ∷ replace rs i x)) q ≡ some y → (y ≡ x) ⊎ (getElem? (r ∷ rs) q ≡ some y)
 replace-new-at i x r rs zero y ih true e = inl (sym (some-some e))
 replace-new-at i x r rs (suc q) y ih true e = inr e
 replace-new-at i x r rs zero y ih false e = inr e
@@ -59,7 +65,10 @@ zero-cases : (t : TransactionTable) (x y : Transaction) (q : ℕ) → AllUnsetZe
 zero-cases t x y q z u (inl e) = subst UnsetZero (sym e) u
 zero-cases t x y q z u (inr e) = z q y e
 
-pub replacing : (t : TransactionTable) (i : TransactionId) (r x : Transaction) → lookup (t .transactions) i ≡ some r → (isFree (x .state) ≡ false → x .id ≡ i) → (UnsetZero r → UnsetZero x) → Change t (slotOf (t .transactions) i) (record { transactions = replace (t .transactions) i x })
+pub replacing :
+    (t : TransactionTable) (i : TransactionId) (r x : Transaction) → lookup (t .transactions) i ≡ some r →
+    (isFree (x .state) ≡ false → x .id ≡ i) → (UnsetZero r → UnsetZero x) →
+    Change t (slotOf (t .transactions) i) (record { transactions = replace (t .transactions) i x })
 replacing t i r x h k u =
     let g : (p : ℕ) × (getElem? (t .transactions) p ≡ some r) = found-place (t .transactions) i r h in
     record {
@@ -70,7 +79,9 @@ replacing t i r x h k u =
 
 -- ## One transaction is put into the lowest free slot
 
-put-others-at : (x r : Transaction) (rs : List Transaction) (q : ℕ) → ((p : ℕ) → (p ≡ freeSlot rs → ⊥) → getElem? (put rs x) p ≡ getElem? rs p) → (b : Bool) → (q ≡ cond b 0 (suc (freeSlot rs)) → ⊥) → getElem? (cond b (x ∷ rs) (r ∷ put rs x)) q ≡ getElem? (r ∷ rs) q
+put-others-at :
+    (x r : Transaction) (rs : List Transaction) (q : ℕ) → ((p : ℕ) → (p ≡ freeSlot rs → ⊥) → getElem? (put rs x) p ≡ getElem? rs p) →
+    (b : Bool) → (q ≡ cond b 0 (suc (freeSlot rs)) → ⊥) → getElem? (cond b (x ∷ rs) (r ∷ put rs x)) q ≡ getElem? (r ∷ rs) q
 put-others-at x r rs zero ih true d = absurd (d refl)
 put-others-at x r rs (suc q) ih true d = refl
 put-others-at x r rs zero ih false d = refl
@@ -81,7 +92,10 @@ unfolding put freeSlot
 put-others [] x q d = refl
 put-others (r ∷ rs) x q d = put-others-at x r rs q (λ p. put-others rs x p) (isFree (r .state)) d
 
-put-new-at : (x r : Transaction) (rs : List Transaction) (q : ℕ) (y : Transaction) → ((p : ℕ) → getElem? (put rs x) p ≡ some y → (y ≡ x) ⊎ (getElem? rs p ≡ some y)) → (b : Bool) → getElem? (cond b (x ∷ rs) (r ∷ put rs x)) q ≡ some y → (y ≡ x) ⊎ (getElem? (r ∷ rs) q ≡ some y)
+put-new-at :
+    (x r : Transaction) (rs : List Transaction) (q : ℕ) (y : Transaction) →
+    ((p : ℕ) → getElem? (put rs x) p ≡ some y → (y ≡ x) ⊎ (getElem? rs p ≡ some y)) → (b : Bool) →
+    getElem? (cond b (x ∷ rs) (r ∷ put rs x)) q ≡ some y → (y ≡ x) ⊎ (getElem? (r ∷ rs) q ≡ some y)
 put-new-at x r rs zero y ih true e = inl (sym (some-some e))
 put-new-at x r rs (suc q) y ih true e = inr e
 put-new-at x r rs zero y ih false e = inr e

@@ -83,7 +83,10 @@ module _ (t : TransactionTable) (d : RegistrarInput) (bytes : List ℕ) (m : Mes
 
   -- ## Only if
 
-  status-known : (b : Bool) → m .contents .entry .«has_status» ≡ b → b ≡ true → (statusOr0 (optionalStatus b (m .contents .entry .status)) ≡ 0) ⊎ (statusOr0 (optionalStatus b (m .contents .entry .status)) ≡ 2) → (m .contents .entry .status ≡ 0) ⊎ (m .contents .entry .status ≡ 2)
+  status-known :
+      (b : Bool) → m .contents .entry .«has_status» ≡ b → b ≡ true →
+      (statusOr0 (optionalStatus b (m .contents .entry .status)) ≡ 0) ⊎ (statusOr0 (optionalStatus b (m .contents .entry .status)) ≡ 2) →
+      (m .contents .entry .status ≡ 0) ⊎ (m .contents .entry .status ≡ 2)
   status-known true h e k = k
   status-known false h e k = true-false (sym e)
 

@@ -98,7 +98,10 @@ module _ (x : Enrolment) where
 
 -- ## A start
 
-start-at : (k : ℕ) (i : TransactionId) (n : Nonce) (t : Bool) → (m : ℕ) (b : FailureInfo) → (cond t (record { outcome = outcome.Done; fault = noFault; sends = true; outgoing = requestOut k i n; enrolment = startedEnrolment k i n }) (enrolmentRefused 32 noEnrolment)) .outcome ≡ outcome.Refused m b → (m ≡ 32) × (t ≡ false)
+start-at :
+    (k : ℕ) (i : TransactionId) (n : Nonce) (t : Bool) → (m : ℕ) (b : FailureInfo) →
+    (cond t (record { outcome = outcome.Done; fault = noFault; sends = true; outgoing = requestOut k i n; enrolment = startedEnrolment k i n }) (enrolmentRefused 32 noEnrolment)) .outcome ≡ outcome.Refused m b →
+    (m ≡ 32) × (t ≡ false)
 start-at k i n true m b e = done-refused m b e
 start-at k i n false m b e = (sym (refused-number 32 m _ b e), refl)
 

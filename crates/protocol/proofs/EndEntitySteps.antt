@@ -57,7 +57,10 @@ module _ (w : World) (v : Inv w) (k : ℕ) (x : BoardEnrolment) (here : At (w .e
   sent-still : (t : EnrolmentState) (s : ℕ) → Sent (w .past) x s → Sent (w .past) (into t) s
   sent-still t s c = record { message = c .message; issued = c .issued; kind = c .kind; id = c .id; sender = c .sender; hash = c .hash; status = c .status }
 
-  moved : (t : EnrolmentState) → ((s : ℕ) → standsFor (x .enrolment .state) s ≡ true → standsFor t s ≡ true) → ((s : ℕ) → hasConfirmed t s ≡ true → hasConfirmed (x .enrolment .state) s ≡ true) → (isAnswered t ≡ true → Answered (w .past) (into t)) → EnrolmentStep (enrolmentMoved (inState (x .enrolment) t))
+  moved :
+      (t : EnrolmentState) → ((s : ℕ) → standsFor (x .enrolment .state) s ≡ true → standsFor t s ≡ true) →
+      ((s : ℕ) → hasConfirmed t s ≡ true → hasConfirmed (x .enrolment .state) s ≡ true) →
+      (isAnswered t ≡ true → Answered (w .past) (into t)) → EnrolmentStep (enrolmentMoved (inState (x .enrolment) t))
   moved t f g a =
       board-one
       w

@@ -12,7 +12,11 @@ use Rattle.protocol.specs.Table.{hasRoom, isFree, put, freeSlot}
 use Rattle.protocol.proofs.Tests.{true-false, none-some, some-some}
 use Rattle.protocol.proofs.RegistrarStates.{is-free}
 
-room-at : (r : Transaction) (rs : List Transaction) → (hasRoom rs ≡ true → (p : ℕ) × (x : Transaction) × (getElem? rs p ≡ some x) × (x .state ≡ at-registrar.Free)) → (b : Bool) → isFree (r .state) ≡ b → cond b true (hasRoom rs) ≡ true → (p : ℕ) × (x : Transaction) × (getElem? (r ∷ rs) p ≡ some x) × (x .state ≡ at-registrar.Free)
+room-at :
+    (r : Transaction) (rs : List Transaction) →
+    (hasRoom rs ≡ true → (p : ℕ) × (x : Transaction) × (getElem? rs p ≡ some x) × (x .state ≡ at-registrar.Free)) → (b : Bool) →
+    isFree (r .state) ≡ b → cond b true (hasRoom rs) ≡ true →
+    (p : ℕ) × (x : Transaction) × (getElem? (r ∷ rs) p ≡ some x) × (x .state ≡ at-registrar.Free)
 room-at r rs ih true q e = (0, r, refl, is-free (r .state) q)
 room-at r rs ih false q e = let g : (p : ℕ) × (x : Transaction) × (getElem? rs p ≡ some x) × (x .state ≡ at-registrar.Free) = ih e in (suc (g .0), g .1, g .2, g .3)
 

@@ -147,7 +147,9 @@ pub record EndEntityStep (past : List Event) (l l′ : List BoardEnrolment) (b :
   -- a certConf sent now stands in a record
   pub stands : (p : Outgoing) → o ≡ some p → p .kind ≡ certConf → Stands l′ b p
   -- a certConf sent now, or before
-  pub sent : (k : ℕ) (y : BoardEnrolment) (s : ℕ) → At l′ k y → hasConfirmed (y .enrolment .state) s ≡ true → ((y .board ≡ b) × (p : Outgoing) × (o ≡ some p) × (p .kind ≡ certConf) × (p .id ≡ y .enrolment .id) × (p .«sender_nonce» ≡ y .enrolment .last) × (p .hash ≡ y .enrolment .hash) × (p .status ≡ s)) ⊎ Sent past y s
+  pub sent :
+      (k : ℕ) (y : BoardEnrolment) (s : ℕ) → At l′ k y → hasConfirmed (y .enrolment .state) s ≡ true →
+      ((y .board ≡ b) × (p : Outgoing) × (o ≡ some p) × (p .kind ≡ certConf) × (p .id ≡ y .enrolment .id) × (p .«sender_nonce» ≡ y .enrolment .last) × (p .hash ≡ y .enrolment .hash) × (p .status ≡ s)) ⊎ Sent past y s
   -- a pkiconf that the registrar issued
   pub answered : (k : ℕ) (y : BoardEnrolment) → At l′ k y → isAnswered (y .enrolment .state) ≡ true → Answered past y
   -- a record was there, or is the last one and has the id drawn

@@ -86,7 +86,10 @@ replace-other [] i j x f d = refl
 replace-other (r ∷ rs) i j x f d = other-at i j x r rs f d (replace-other rs i j x f d) (isFor i r) refl
 
 -- replaced: the same id
-same-at : (i : TransactionId) (x r : Transaction) (rs : List Transaction) (y : Transaction) → isFor i x ≡ true → (lookup rs i ≡ some y → lookup (replace rs i x) i ≡ some x) → (b : Bool) → isFor i r ≡ b → cond b (some r) (lookup rs i) ≡ some y → lookup (cond b (x ∷ rs) (r ∷ replace rs i x)) i ≡ some x
+same-at :
+    (i : TransactionId) (x r : Transaction) (rs : List Transaction) (y : Transaction) → isFor i x ≡ true →
+    (lookup rs i ≡ some y → lookup (replace rs i x) i ≡ some x) → (b : Bool) → isFor i r ≡ b → cond b (some r) (lookup rs i) ≡ some y →
+    lookup (cond b (x ∷ rs) (r ∷ replace rs i x)) i ≡ some x
 unfolding lookup
 same-at i x r rs y f ih true q p = rw f
 same-at i x r rs y f ih false q p = rw q (ih p)
@@ -97,7 +100,10 @@ replace-same [] i x y f e = none-some e
 replace-same (r ∷ rs) i x y f e = same-at i x r rs y f (λ p. replace-same rs i x y f p) (isFor i r) refl e
 
 -- freed: the id is in the table no more
-gone-at : (i : TransactionId) (x r : Transaction) (rs : List Transaction) → isFor i x ≡ false → (isFree (r .state) ≡ false → lookup rs (r .id) ≡ none) → lookup (replace rs i x) i ≡ none → (b : Bool) → isFor i r ≡ b → lookup (cond b (x ∷ rs) (r ∷ replace rs i x)) i ≡ none
+gone-at :
+    (i : TransactionId) (x r : Transaction) (rs : List Transaction) → isFor i x ≡ false →
+    (isFree (r .state) ≡ false → lookup rs (r .id) ≡ none) → lookup (replace rs i x) i ≡ none → (b : Bool) → isFor i r ≡ b →
+    lookup (cond b (x ∷ rs) (r ∷ replace rs i x)) i ≡ none
 unfolding lookup
 gone-at i x r rs f u ih true q = rw (f, ← isFor-id i r q) (u (isFor-live i r q))
 gone-at i x r rs f u ih false q = rw q ih
@@ -118,7 +124,11 @@ unfolding lookup put
 put-other [] j x f = refl
 put-other (r ∷ rs) j x f = put-other-at j x r rs f (put-other rs j x f) (isFree (r .state)) refl
 
-put-same-at : (i : TransactionId) (x r : Transaction) (rs : List Transaction) → isFor i x ≡ true → (lookup rs i ≡ none → hasRoom rs ≡ true → lookup (put rs x) i ≡ some x) → (b : Bool) → isFree (r .state) ≡ b → (c : Bool) → isFor i r ≡ c → cond c (some r) (lookup rs i) ≡ none → cond b true (hasRoom rs) ≡ true → lookup (cond b (x ∷ rs) (r ∷ put rs x)) i ≡ some x
+put-same-at :
+    (i : TransactionId) (x r : Transaction) (rs : List Transaction) → isFor i x ≡ true →
+    (lookup rs i ≡ none → hasRoom rs ≡ true → lookup (put rs x) i ≡ some x) → (b : Bool) → isFree (r .state) ≡ b → (c : Bool) →
+    isFor i r ≡ c → cond c (some r) (lookup rs i) ≡ none → cond b true (hasRoom rs) ≡ true →
+    lookup (cond b (x ∷ rs) (r ∷ put rs x)) i ≡ some x
 unfolding lookup
 put-same-at i x r rs f ih true q c g n h = rw f
 put-same-at i x r rs f ih false q true g n h = none-some (sym n)

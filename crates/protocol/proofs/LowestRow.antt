@@ -1,7 +1,7 @@
 -- At both ends, the lowest row that applies is given, and none otherwise.
 use Prim.Native.Nat.{ℕ}
 use mathlib.Core.List.{List}
-use mathlib.Core.Bool.{Bool, true, false, cond}
+use mathlib.Core.Bool.{true}
 use mathlib.Core.Option.{Option, none, some}
 use mathlib.Core.Path.{_≡_, refl, sym, _∙_, ap, subst}
 use lib.Dec.{eqb}
@@ -18,14 +18,13 @@ use Rattle.protocol.specs.declared.Outcome.{Outcome}
 use Rattle.protocol.specs.declared.RegistrarAnswer.{RegistrarAnswer}
 use Rattle.protocol.specs.declared.EndEntityAnswer.{EndEntityAnswer}
 use Rattle.protocol.specs.declared.Outcome.the-variants as outcome
-use Rattle.protocol.specs.Bytes.{asId, asNonce}
+use Rattle.protocol.specs.Bytes.{asId}
 use Rattle.protocol.specs.Message.{Fields, statusOr0, pkiConf, fieldsOf, errorKind}
-use Rattle.protocol.specs.Outgoing.{pkiConfOut}
-use Rattle.protocol.specs.Table.{lookup, slotOf, replace}
-use Rattle.protocol.specs.States.{isGranted, settledState}
-use Rattle.protocol.specs.Refusals.{Row, stop, check, pass, Check, noFault}
+use Rattle.protocol.specs.Table.{lookup}
+use Rattle.protocol.specs.States.{isGranted}
+use Rattle.protocol.specs.Refusals.{Row, stop, check, pass, Check}
 use Rattle.protocol.specs.RegistrarRows.{registrarRows}
-use Rattle.protocol.specs.Registrar.{registrarChecked, doneSending, settled, registrarFields, registrarMessage}
+use Rattle.protocol.specs.Registrar.{registrarChecked, registrarFields, registrarMessage}
 use Rattle.protocol.specs.EndEntityRows.{endEntityRows}
 use Rattle.protocol.specs.EndEntity.{endEntityChecked, endEntityMessage, endEntityRead}
 use Rattle.protocol.specs.Promises.{LowestGiven}
@@ -62,11 +61,8 @@ module _ (t : TransactionTable) (d : RegistrarInput) (m : Fields) where
   passed-registrar : (h : Option Transaction) (n : ℕ) (b : FailureInfo) → registrarChecked pass h t d m .outcome ≡ outcome.Refused n b → ⊥
   unfolding registrarChecked
   passed-registrar none n b e = done-refused n b e
-  passed-registrar (some r) n b e = granted-or (isGranted (r .state)) e
-    where
-      granted-or : (q : Bool) → (cond q (doneSending (slotOf (t .transactions) (asId (m .id))) (replace (t .transactions) (asId (m .id)) (settled r (settledState (statusOr0 (m .status))) (asNonce (m .senderNonce)))) (pkiConfOut (asId (m .id)) (d .nonce) (asNonce (m .senderNonce)))) (record { outcome = outcome.Again; fault = noFault; slot = record { 0 = slotOf (t .transactions) (asId (m .id)) }; sends = true; outgoing = pkiConfOut (asId (m .id)) (d .nonce) (asNonce (m .senderNonce)); table = t })) .outcome ≡ outcome.Refused n b → ⊥
-      granted-or true z = done-refused n b z
-      granted-or false z = again-refused n b z
+  passed-registrar (some r) n b e =
+      cases (λ (a : RegistrarAnswer). a .outcome ≡ outcome.Refused n b → ⊥) (isGranted (r .state)) _ _ (λ _ z. done-refused n b z) (λ _ z. again-refused n b z) e
 
   follows-registrar : Follows (registrarRows (t .transactions) g (d .verdict) m) (registrarFields t d m .outcome)
   unfolding registrarFields registrarChecked
@@ -81,18 +77,23 @@ module _ (t : TransactionTable) (d : RegistrarInput) (m : Fields) where
   lowest-fields = lowest-given _ _ refl follows-registrar
 
 -- a message that reads: the rows are those of its fields
-pub registrar-lowest : (t : TransactionTable) (d : RegistrarInput) (bytes : List ℕ) (m : Message) → readingOf bytes ≡ read.Clean m → LowestGiven (registrarRows (t .transactions) (lookup (t .transactions) (asId (fieldsOf bytes m .id))) (d .verdict) (fieldsOf bytes m)) (registrarMessage t d bytes .outcome)
+pub registrar-lowest :
+    (t : TransactionTable) (d : RegistrarInput) (bytes : List ℕ) (m : Message) → readingOf bytes ≡ read.Clean m →
+    LowestGiven (registrarRows (t .transactions) (lookup (t .transactions) (asId (fieldsOf bytes m .id))) (d .verdict) (fieldsOf bytes m)) (registrarMessage t d bytes .outcome)
 registrar-lowest t d bytes m e = subst (λ (a : RegistrarAnswer). LowestGiven (registrarRows (t .transactions) (lookup (t .transactions) (asId (fieldsOf bytes m .id))) (d .verdict) (fieldsOf bytes m)) (a .outcome)) (sym (message-at t d bytes m e)) (lowest-fields t d (fieldsOf bytes m))
 
 -- ## The end entity
 
 module _ (x : Enrolment) (d : EndEntityInput) (m : Fields) where
-  passed-end : (n : ℕ) (b : FailureInfo) → endEntityChecked pass x d m .outcome ≡ outcome.Refused n b → ⊥
+  abbrev NotRefused : ℕ → FailureInfo → EndEntityAnswer → Type 0
+  NotRefused n b a = a .outcome ≡ outcome.Refused n b → ⊥
+
+  passed-end : (n : ℕ) (b : FailureInfo) → NotRefused n b (endEntityChecked pass x d m)
   unfolding endEntityChecked
-  passed-end n b e =
-      cases (λ (a : EndEntityAnswer). a .outcome ≡ outcome.Refused n b → ⊥) (eqb (m .kind) pkiConf) _ _ (λ _ z. done-refused n b z)
-      (λ _. cases (λ (a : EndEntityAnswer). a .outcome ≡ outcome.Refused n b → ⊥) (eqb (m .kind) errorKind) _ _ (λ _ z. done-refused n b z) (λ _. cases (λ (a : EndEntityAnswer). a .outcome ≡ outcome.Refused n b → ⊥) (eqb (statusOr0 (m .status)) 2) _ _ (λ _ z. done-refused n b z) (λ _ z. done-refused n b z)))
-      e
+  passed-end n b =
+      cases (NotRefused n b) (eqb (m .kind) pkiConf) _ _ (λ _ z. done-refused n b z)
+      (λ _. cases (NotRefused n b) (eqb (m .kind) errorKind) _ _ (λ _ z. done-refused n b z)
+      (λ _. cases (NotRefused n b) (eqb (statusOr0 (m .status)) 2) _ _ (λ _ z. done-refused n b z) (λ _ z. done-refused n b z)))
 
   follows-end : Follows (endEntityRows x (d .good) m) (endEntityChecked (check (endEntityRows x (d .good) m)) x d m .outcome)
   unfolding endEntityChecked

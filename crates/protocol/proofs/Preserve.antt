@@ -75,7 +75,10 @@ module _ (w : World) (c : Call) (o : Option Outgoing) (cl : Option TransactionId
   carried n s (inl h) t = inr (record { found = s .found; holds = h; sent = s .sent; hash = s .hash; state = s .state })
   carried n s (inr h) t = inl (inl (h, t .message, t .issued, t .sender ∙ s .sent))
 
-  acknowledges-old : (p : Outgoing) → (n : Acknowledged (w .past) p) × (ClosedSince (n .message .id) (n .message .«recip_nonce») (w .past) ⊎ Settled (w .table) (n .message)) → (n : Acknowledged (e ∷ w .past) p) × (ClosedSince (n .message .id) (n .message .«recip_nonce») (e ∷ w .past) ⊎ Settled b′ (n .message))
+  acknowledges-old :
+      (p : Outgoing) →
+      (n : Acknowledged (w .past) p) × (ClosedSince (n .message .id) (n .message .«recip_nonce») (w .past) ⊎ Settled (w .table) (n .message)) →
+      (n : Acknowledged (e ∷ w .past) p) × (ClosedSince (n .message .id) (n .message .«recip_nonce») (e ∷ w .past) ⊎ Settled b′ (n .message))
   acknowledges-old p (n, inl h) = (acknowledged-more e n, inl (inr h))
   acknowledges-old p (n, inr s) =
       (acknowledged-more e n, carried (n .message) s (d .stays (n .message .id) (s .found) (n .message .status) (s .holds) (s .state)) (v .responded (n .message .id) (s .found) (s .holds) (settled-sent (s .found .state) (n .message .status) (s .state))))
@@ -143,12 +146,18 @@ module _
     stands b₂ q (inl g) k = let p : OneBoard b ≡ OneBoard b₂ = g .0 in stands-new b₂ q (cc) (d .stands q (g .1) k)
     stands b₂ q (inr i) k = let s : Stands (w .enrolments) b₂ q = v .stands b₂ q i k in stands-old b₂ q s (d .stays (s .place) (s .held) (s .holds))
 
-    sent-cases : (y : BoardEnrolment) (s : ℕ) → ((y .board ≡ b) × (p : Outgoing) × (o ≡ some p) × (p .kind ≡ certConf) × (p .id ≡ y .enrolment .id) × (p .«sender_nonce» ≡ y .enrolment .last) × (p .hash ≡ y .enrolment .hash) × (p .status ≡ s)) ⊎ Sent (w .past) y s → Sent (e₂ ∷ w .past) y s
+    sent-cases :
+        (y : BoardEnrolment) (s : ℕ) →
+        ((y .board ≡ b) × (p : Outgoing) × (o ≡ some p) × (p .kind ≡ certConf) × (p .id ≡ y .enrolment .id) × (p .«sender_nonce» ≡ y .enrolment .last) × (p .hash ≡ y .enrolment .hash) × (p .status ≡ s)) ⊎ Sent (w .past) y s →
+        Sent (e₂ ∷ w .past) y s
     sent-cases y s (inl g) =
         record { message = g .1; issued = inl (ap OneBoard (sym (g .0)), g .2); kind = g .3; id = g .4; sender = g .5; hash = g .6; status = g .7 }
     sent-cases y s (inr t) = sent-more e₂ t
 
-    board-acknowledges : (p : Outgoing) → (n : Acknowledged (w .past) p) × (ClosedSince (n .message .id) (n .message .«recip_nonce») (w .past) ⊎ Settled (w .table) (n .message)) → (n : Acknowledged (e₂ ∷ w .past) p) × (ClosedSince (n .message .id) (n .message .«recip_nonce») (e₂ ∷ w .past) ⊎ Settled (w .table) (n .message))
+    board-acknowledges :
+        (p : Outgoing) →
+        (n : Acknowledged (w .past) p) × (ClosedSince (n .message .id) (n .message .«recip_nonce») (w .past) ⊎ Settled (w .table) (n .message)) →
+        (n : Acknowledged (e₂ ∷ w .past) p) × (ClosedSince (n .message .id) (n .message .«recip_nonce») (e₂ ∷ w .past) ⊎ Settled (w .table) (n .message))
     board-acknowledges p (n, inl h) = (acknowledged-more e₂ n, inl (inr h))
     board-acknowledges p (n, inr s) = (acknowledged-more e₂ n, inr s)
 

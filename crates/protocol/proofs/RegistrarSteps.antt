@@ -66,7 +66,10 @@ module _ (w : World) (v : Inv w) where
   abbrev pub StepOf : (RegistrarAnswer → Option TransactionId) → RegistrarAnswer → Type 0
   StepOf cl a = RegistrarStep (w .past) (w .table) (a .table) (sentBy (a .sends) (a .outgoing)) (cl a)
 
-  host : (cl : RegistrarAnswer → Option TransactionId) (ok : Transaction → Bool) (g : Transaction → RegistrarAnswer) (f : Option Transaction) → ((k : ℕ) → StepOf cl (refusedQuietly k (w .table))) → ((r : Transaction) → f ≡ some r → ok r ≡ true → StepOf cl (g r)) → StepOf cl (hostStep f (w .table) ok g)
+  host :
+      (cl : RegistrarAnswer → Option TransactionId) (ok : Transaction → Bool) (g : Transaction → RegistrarAnswer) (f : Option Transaction) →
+      ((k : ℕ) → StepOf cl (refusedQuietly k (w .table))) → ((r : Transaction) → f ≡ some r → ok r ≡ true → StepOf cl (g r)) →
+      StepOf cl (hostStep f (w .table) ok g)
   host cl ok g none ref s = ref 30
   host cl ok g (some r) ref s = cases (StepOf cl) (ok r) (g r) (refusedQuietly 31 (w .table)) (λ t. s r refl t) (λ _. ref 31)
 
@@ -79,7 +82,10 @@ module _ (w : World) (v : Inv w) where
   response-quiet : (k : ℕ) (i : TransactionId) (n a : Nonce) (s : ℕ) → (k ≡ pkiConf → ⊥) → Quiet (some (responseOut k i n a s))
   response-quiet k i n a s d p e q = d (ap (λ (y : Outgoing). y .kind) (some-some e) ∙ q)
 
-  responds : (i : TransactionId) (r : Transaction) (t : TransactionState) (status : ℕ) (n : Nonce) (h : Hash) → lookup recs i ≡ some r → isAsked (r .state) ≡ true → isFree t ≡ false → ((s : ℕ) → settledBy t s ≡ true → ⊥) → StepOf open-still (respond (w .table) i r t status n h)
+  responds :
+      (i : TransactionId) (r : Transaction) (t : TransactionState) (status : ℕ) (n : Nonce) (h : Hash) → lookup recs i ≡ some r →
+      isAsked (r .state) ≡ true → isFree t ≡ false → ((s : ℕ) → settledBy t s ≡ true → ⊥) →
+      StepOf open-still (respond (w .table) i r t status n h)
   responds i r t status n h e a live unsettled =
       replaces
       i

@@ -108,7 +108,10 @@ module _ (t : TransactionTable) (d : RegistrarInput) (bytes : List ℕ) (m : Mes
           request = λ z. eqb-eq (f .request) 0 (not-false _ (and-false (hasEntries f && oneEntry f) (not (eqb (f .request) 0)) (passes 16 rows e) (both (hasEntries f) (oneEntry f) (counted (m .contents .kind) kind z) (one z))));
         }
 
-  opens-by : readingOf bytes ≡ read.Clean m → IsRequest (m .contents .kind) → (g : Option Transaction) → lookup rs (asId (f .id)) ≡ g → (c : Check) → check (registrarRows rs g (d .verdict) f) ≡ c → (registrarChecked c g t d f) .outcome ≡ outcome.Done → (b : Board) × Opening t d bytes m b
+  opens-by :
+      readingOf bytes ≡ read.Clean m → IsRequest (m .contents .kind) → (g : Option Transaction) → lookup rs (asId (f .id)) ≡ g →
+      (c : Check) → check (registrarRows rs g (d .verdict) f) ≡ c → (registrarChecked c g t d f) .outcome ≡ outcome.Done →
+      (b : Board) × Opening t d bytes m b
   unfolding registrarChecked fieldsOf
   opens-by reads kind g h (stop k) e q = done-refused k _ (sym q)
   opens-by reads kind none h pass e q = (_, opening reads kind h e)

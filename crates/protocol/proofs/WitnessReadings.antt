@@ -61,7 +61,12 @@ pkiConfFields = fieldsWith 19 5 (some (replicate 16 4)) 0 none [] false
 
 -- all five, computed
 all-read : ReadsAs irBytes irFields × ReadsAs ipBytes ipFields × ReadsAs acceptBytes acceptFields × ReadsAs declineBytes declineFields × ReadsAs pkiConfBytes pkiConfFields
-unfolding tagOk inside oneByte twoBytes lengthOf headOf booleanOk integerOk bitStringOk arcsOk oidOk contentOk formOk judge elementOf run contentAt checkAt check headIn tagAt needOf anyOf maybeOf restOf doneOf enterOf leaveOf partOf contentOf shiftIn signed32 valueOf smallOf moreAt repeat foundOf typedOf oneOf allBy sequenceBy sequenceOf fieldOf typedField anyField sequenceField maybeText lastBitSet failInfoOf statusOf maybeStatus nameTag nameOf namesOf optionsOf idsOf headerOf requestOf choiceOf keyPair maybeKeyPair responseOf statusEntry entryOf entriesOf atLeastOne requestsOf responsesOf confirmationsOf errorOf p10crOf otherOf contentsOf bodyTag bodyOf startAt messageOf lowest readingOf fieldsOf
+unfolding tagOk inside oneByte twoBytes lengthOf headOf booleanOk integerOk bitStringOk arcsOk oidOk contentOk formOk judge
+    elementOf run contentAt checkAt check headIn tagAt needOf anyOf maybeOf restOf doneOf enterOf leaveOf partOf contentOf shiftIn
+    signed32 valueOf smallOf moreAt repeat foundOf typedOf oneOf allBy sequenceBy sequenceOf fieldOf typedField anyField
+    sequenceField maybeText lastBitSet failInfoOf statusOf maybeStatus nameTag nameOf namesOf optionsOf idsOf headerOf requestOf
+    choiceOf keyPair maybeKeyPair responseOf statusEntry entryOf entriesOf atLeastOne requestsOf responsesOf confirmationsOf
+    errorOf p10crOf otherOf contentsOf bodyTag bodyOf startAt messageOf lowest readingOf fieldsOf
 all-read = (
   record { message = _; reads = refl; fields = refl },
   record { message = _; reads = refl; fields = refl },

@@ -131,7 +131,10 @@ module _ (bytes : List ℕ) (f : Fields) (r : ReadsAs bytes f) (o : Outgoing) (c
     λ h. absent-part bytes (m .fields .«recip_nonce») (eqb (m .fields .«recip_nonce» .start .0) 0) refl (e ∙ c .recipNonce ∙ ap (λ (b : Bool). recipOf b (o .«recip_nonce» .bytes)) h),
   )
 
-  status-there : optionalStatus (m .contents .entry .«has_status») (m .contents .entry .status) ≡ f .status → m .contents .kind ≡ f .kind → (f .status ≡ some (o .status)) ⊎ ((f .kind ≡ 24) × (f .status ≡ none) × (o .status ≡ 0)) → ((m .contents .entry .«has_status» ≡ true) × (m .contents .entry .status ≡ o .status)) ⊎ ((m .contents .kind ≡ 24) × (m .contents .entry .«has_status» ≡ false) × (o .status ≡ 0))
+  status-there :
+      optionalStatus (m .contents .entry .«has_status») (m .contents .entry .status) ≡ f .status → m .contents .kind ≡ f .kind →
+      (f .status ≡ some (o .status)) ⊎ ((f .kind ≡ 24) × (f .status ≡ none) × (o .status ≡ 0)) →
+      ((m .contents .entry .«has_status» ≡ true) × (m .contents .entry .status ≡ o .status)) ⊎ ((m .contents .kind ≡ 24) × (m .contents .entry .«has_status» ≡ false) × (o .status ≡ 0))
   status-there e k (inl g) = inl (status-some (m .contents .entry .«has_status») (m .contents .entry .status) (o .status) (e ∙ g))
   status-there e k (inr g) = inr (k ∙ g .0, status-none (m .contents .entry .«has_status») (m .contents .entry .status) (e ∙ g .1), g .2)
 
