@@ -42,6 +42,18 @@
 //! # Ok::<(), duskstall_host::Refusal>(())
 //! ```
 //!
+//! The library's proof says that both ends agree, whatever the line loses,
+//! repeats, reorders or makes up: a board that is Sure has its transaction
+//! Confirmed with the same hash, and one that is Declined has it Declined, until
+//! it is closed; where a transaction is Confirmed, its board holds that hash and
+//! is Sure, Confirming or Unsettled; a board that Failed never had it Confirmed.
+//! It supposes of the host:
+//!
+//! - a good verdict is given only for a message that the sender it names issued;
+//! - no id and no nonce is drawn twice;
+//! - a registrar or an end entity that was replaced by a clone of an earlier
+//!   state, or by a new one, is not the same any more.
+//!
 //! With the static library built, `cargo test --release -- --nocapture`
 //! compares all of it and `cargo run --release --bin bench` measures it.
 
