@@ -83,9 +83,9 @@ pub(crate) fn free_transaction() -> Transaction
 pub fn transaction_at(table: TransactionTable, slot: Slot) -> Transaction
     ensures { λ r. ⌜ r ≡ heldAt (table .transactions) (slot .0) ⌝ }
 {
-    let at = slot.0;
-    if at < TransactionTable::CAPACITY {
-        return table.transactions[at];
+    let place = slot.0;
+    if place < TransactionTable::CAPACITY {
+        return table.transactions[place];
     }
     free_transaction()
 }
