@@ -15,7 +15,8 @@ use Rattle.packed.specs.declared.enrolment.UnpackedEnrolment.{UnpackedEn
 use Rattle.packed.specs.Bytes.{part}
 use Rattle.packed.specs.Enrolment.{stateNumber, stateOf, enrolmentBytes, packEnrolment, enrolmentOf, unpackEnrolment, Sized}
 use Rattle.packed.proofs.Tests.{both}
-use Rattle.packed.proofs.Parts.{skip, skip-at, front, join, one}
+use Rattle.packed.proofs.Parts.{part-length, join, one}
+use Rattle.packed.proofs.FieldLaws.{Laid, field-at, byte-at}
 
 -- ## A state
 
@@ -51,65 +52,32 @@ number-of (suc (suc (suc (suc (suc (suc (suc n))))))) h = absurd (omega arith)
 
 -- ## Unpacking what was packed
 
+abbrev layout : List ℕ
+layout = 16 ∷ 1 ∷ 16 ∷ 16 ∷ 32 ∷ 1 ∷ []
+
 module _ (x : Enrolment) (z : Sized x) where
-  end : List ℕ
-  end = x .hash .bytes ++ stateNumber (x .state) ∷ []
+  abbrev fields : List (List ℕ)
+  fields = x .id .bytes ∷ (x .kind ∷ []) ∷ x .last .bytes ∷ x .taken .bytes ∷ x .hash .bytes ∷ (stateNumber (x .state) ∷ []) ∷ []
 
-  nonces : List ℕ
-  nonces = x .last .bytes ++ (x .taken .bytes ++ end)
-
-  -- past the id
-  past : (k m : ℕ) → part (16 + k) m (packEnrolment x) ≡ part k m (x .kind ∷ nonces)
-  unfolding packEnrolment nonces end
-  past = skip (x .id .bytes) (x .kind ∷ nonces) 16 (z .id)
-
-  past-at : (k : ℕ) → getD (packEnrolment x) (16 + k) 0 ≡ getD (x .kind ∷ nonces) k 0
-  unfolding packEnrolment nonces end
-  past-at = skip-at (x .id .bytes) (x .kind ∷ nonces) 16 (z .id)
-
-  id-at : part 0 16 (packEnrolment x) ≡ x .id .bytes
-  unfolding packEnrolment
-  id-at = front (x .id .bytes) _ 16 (z .id)
-
-  last-at : part 17 16 (packEnrolment x) ≡ x .last .bytes
-  unfolding nonces
-  last-at = past 1 16 ∙ front (x .last .bytes) (x .taken .bytes ++ end) 16 (z .last)
-
-  taken-at : part 33 16 (packEnrolment x) ≡ x .taken .bytes
-  unfolding nonces
-  taken-at = past 17 16 ∙ skip (x .last .bytes) (x .taken .bytes ++ end) 16 (z .last) 0 16 ∙ front (x .taken .bytes) end 16 (z .taken)
-
-  hash-at : part 49 32 (packEnrolment x) ≡ x .hash .bytes
-  unfolding nonces end
-  hash-at =
-      past 33 32
-      ∙ skip (x .last .bytes) (x .taken .bytes ++ end) 16 (z .last) 16 32
-      ∙ skip (x .taken .bytes) end 16 (z .taken) 0 32
-      ∙ front (x .hash .bytes) (stateNumber (x .state) ∷ []) 32 (z .hash)
+  laid : Laid layout fields
+  laid = (z .id, (refl, (z .last, (z .taken, (z .hash, (refl, tt))))))
 
   state-at : getD (packEnrolment x) 81 0 ≡ stateNumber (x .state)
-  unfolding nonces end
-  state-at =
-      past-at 65
-      ∙ skip-at (x .last .bytes) (x .taken .bytes ++ end) 16 (z .last) 48
-      ∙ skip-at (x .taken .bytes) end 16 (z .taken) 32
-      ∙ skip-at (x .hash .bytes) (stateNumber (x .state) ∷ []) 32 (z .hash) 0
-
-  fields : Enrolment
-  fields =
-      record {
-        id = record { bytes = x .id .bytes };
-        kind = x .kind;
-        last = record { bytes = x .last .bytes };
-        taken = record { bytes = x .taken .bytes };
-        hash = record { bytes = x .hash .bytes };
-        state = x .state;
-      }
+  unfolding packEnrolment
+  state-at = byte-at layout fields laid [] 5 0 (omega arith)
 
   enrolment-back : enrolmentOf (packEnrolment x) ≡ x
-  unfolding enrolmentOf fields
+  unfolding enrolmentOf packEnrolment
   enrolment-back =
-      let each : enrolmentOf (packEnrolment x) ≡ fields = cc (id-at, past-at 0, last-at, taken-at, hash-at, state-at, of-number (x .state)) in each
+      rw (
+        field-at layout fields laid [] 0 (omega arith),
+        byte-at layout fields laid [] 1 0 (omega arith),
+        field-at layout fields laid [] 2 (omega arith),
+        field-at layout fields laid [] 3 (omega arith),
+        field-at layout fields laid [] 4 (omega arith),
+        byte-at layout fields laid [] 5 0 (omega arith),
+        of-number (x .state),
+      )
 
   packed-length : length (packEnrolment x) ≡ enrolmentBytes
   unfolding packEnrolment
@@ -140,3 +108,12 @@ pack-unpacked s ok =
     let tests : (eqb (length s) enrolmentBytes ≡ true) × (ltb (getD s 81 0) 7 ≡ true) = both (λ (u : UnpackedEnrolment). u .ok) _ _ refl (eqb (length s) enrolmentBytes) (ltb (getD s 81 0) 7) ok in
     let size : length s ≡ enrolmentBytes = eqb-true _ _ (tests .0) in
     rw (tests .0, tests .1) (enrolment-again s (omega arith) (ltb-true _ _ (tests .1)) ∙ take-all enrolmentBytes s (omega arith))
+
+-- ## What is unpacked has its sizes
+
+pub enrolment-sized : (s : List ℕ) → unpackEnrolment s .ok ≡ true → Sized (unpackEnrolment s .enrolment)
+unfolding unpackEnrolment enrolmentOf
+enrolment-sized s ok =
+    let tests : (eqb (length s) enrolmentBytes ≡ true) × (ltb (getD s 81 0) 7 ≡ true) = both (λ (u : UnpackedEnrolment). u .ok) _ _ refl (eqb (length s) enrolmentBytes) (ltb (getD s 81 0) 7) ok in
+    let size : length s ≡ enrolmentBytes = eqb-true _ _ (tests .0) in
+    rw (tests .0, tests .1) (record { id = part-length 0 16 s (omega arith); last = part-length 17 16 s (omega arith); taken = part-length 33 16 s (omega arith); hash = part-length 49 32 s (omega arith) })

@@ -1,5 +1,8 @@
+pub mod AnswerInverse
 pub mod Copies
 pub mod EnrolmentInverse
+pub mod FieldLaws
+pub mod OutgoingInverse
 pub mod Parts
 pub mod Rows
 pub mod TableInverse

@@ -1,11 +1,11 @@
 -- Parts of a byte string that is itself the end of another, or that was put together of parts.
-use Prim.Native.Nat.{ℕ, _+_, _/_, _%_, _<_}
+use Prim.Native.Nat.{ℕ, _+_, _/_, _%_, _<_, _≤_}
 use mathlib.Core.List.{List, [], _∷_, _++_}
 use mathlib.Core.Path.{_≡_, sym, _∙_, ap}
 use native.Mathlib.Nat.{add-assoc}
 use native.Mathlib.Omega.{arith}
-use lib.ListN.{length, take, drop, getD}
-use lib.Seq.{drop-drop, getD-drop, drop-at, take-at, getD-append-add, take-add, drop-cons}
+use lib.ListN.{length, take, drop, getD, length-drop}
+use lib.Seq.{drop-drop, getD-drop, drop-at, getD-append-add, take-add, drop-cons, length-take-le}
 use Rattle.packed.specs.Bytes.{part, twoAt, twoBytes, AllBytes}
 
 -- ## The end of a string
@@ -20,7 +20,10 @@ module _ (at k : ℕ) where
 pub bytes-drop : (at : ℕ) (s : List ℕ) → AllBytes s → AllBytes (drop at s)
 bytes-drop at s h i = rw (getD-drop at s i 0) (h (at + i))
 
--- ## A string put together: past its first part x, and that part
+pub part-length : (k n : ℕ) (s : List ℕ) → k + n ≤ length s → length (part k n s) ≡ n
+part-length k n s h = length-take-le n (drop k s) (omega (arith, length-drop k s))
+
+-- ## A string put together: past its first part x
 
 module _ (x y : List ℕ) (n : ℕ) (e : length x ≡ n) where
   pub skip : (k m : ℕ) → part (n + k) m (x ++ y) ≡ part k m y
@@ -28,9 +31,6 @@ module _ (x y : List ℕ) (n : ℕ) (e : length x ≡ n) where
 
   pub skip-at : (k : ℕ) → getD (x ++ y) (n + k) 0 ≡ getD y k 0
   skip-at k = rw (sym e) (getD-append-add x y k 0)
-
-  pub front : part 0 n (x ++ y) ≡ x
-  front = take-at x y n e
 
 -- ## A string taken apart: its parts make it again
 

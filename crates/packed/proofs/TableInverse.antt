@@ -18,7 +18,9 @@ use Rattle.packed.specs.declared.table.UnpackedTable.{UnpackedTable}
 use Rattle.packed.specs.Bytes.{part, twoBytes, AllBytes}
 use Rattle.packed.specs.Table.{stateNumber, stateOf, transactionBytes, packTransaction, transactionOf, tableBytes, packRows, rowsOf, statesGood, packTable, unpackTable, Sized, AllSized, TableSized}
 use Rattle.packed.proofs.Tests.{both}
-use Rattle.packed.proofs.Parts.{bytes-drop, skip, skip-at, front, join, one, two}
+use Rattle.packed.proofs.Parts.{bytes-drop, part-length, join, one, two}
+use Rattle.packed.proofs.Rows.{length-rows}
+use Rattle.packed.proofs.FieldLaws.{joined, Laid, field-at, byte-at}
 
 -- ## A state
 
@@ -54,75 +56,39 @@ number-of (suc (suc (suc (suc (suc (suc (suc n))))))) h = absurd (omega arith)
 
 -- ## Unpacking what was packed
 
+abbrev layout : List ℕ
+layout = 16 ∷ 2 ∷ 1 ∷ 16 ∷ 16 ∷ 32 ∷ 1 ∷ []
+
 module _ (t : Transaction) (z : Sized t) (rest : List ℕ) where
-  last : List ℕ
-  last = t .hash .bytes ++ stateNumber (t .state) ∷ rest
+  abbrev fields : List (List ℕ)
+  fields = t .id .bytes ∷ twoBytes (t .board .0) ∷ (t .kind ∷ []) ∷ t .taken .bytes ∷ t .sent .bytes ∷ t .hash .bytes ∷ (stateNumber (t .state) ∷ []) ∷ []
 
-  nonces : List ℕ
-  nonces = t .taken .bytes ++ (t .sent .bytes ++ last)
+  laid : Laid layout fields
+  laid = (z .id, (refl, (refl, (z .taken, (z .sent, (z .hash, (refl, tt)))))))
 
-  all : List ℕ
-  all = t .id .bytes ++ (twoBytes (t .board .0) ++ t .kind ∷ nonces)
-
-  all-is : packTransaction t ++ rest ≡ all
-  unfolding packTransaction all nonces last
+  all-is : packTransaction t ++ rest ≡ joined fields rest
+  unfolding packTransaction
   all-is = simp append-assoc
 
-  -- past the id
-  past : (k m : ℕ) → part (16 + k) m all ≡ part k m (twoBytes (t .board .0) ++ t .kind ∷ nonces)
-  unfolding all
-  past = skip (t .id .bytes) (twoBytes (t .board .0) ++ t .kind ∷ nonces) 16 (z .id)
-
-  past-at : (k : ℕ) → getD all (16 + k) 0 ≡ getD (twoBytes (t .board .0) ++ t .kind ∷ nonces) k 0
-  unfolding all
-  past-at = skip-at (t .id .bytes) (twoBytes (t .board .0) ++ t .kind ∷ nonces) 16 (z .id)
-
-  id-at : part 0 16 all ≡ t .id .bytes
-  unfolding all
-  id-at = front (t .id .bytes) (twoBytes (t .board .0) ++ t .kind ∷ nonces) 16 (z .id)
-
-  taken-at : part 19 16 all ≡ t .taken .bytes
-  unfolding nonces
-  taken-at = past 3 16 ∙ front (t .taken .bytes) (t .sent .bytes ++ last) 16 (z .taken)
-
-  sent-at : part 35 16 all ≡ t .sent .bytes
-  unfolding nonces
-  sent-at = past 19 16 ∙ skip (t .taken .bytes) (t .sent .bytes ++ last) 16 (z .taken) 0 16 ∙ front (t .sent .bytes) last 16 (z .sent)
-
-  hash-at : part 51 32 all ≡ t .hash .bytes
-  unfolding nonces last
-  hash-at =
-      past 35 32
-      ∙ skip (t .taken .bytes) (t .sent .bytes ++ last) 16 (z .taken) 16 32
-      ∙ skip (t .sent .bytes) last 16 (z .sent) 0 32
-      ∙ front (t .hash .bytes) (stateNumber (t .state) ∷ rest) 32 (z .hash)
-
-  state-at : getD all 83 0 ≡ stateNumber (t .state)
-  unfolding nonces last
-  state-at =
-      past-at 67
-      ∙ skip-at (t .taken .bytes) (t .sent .bytes ++ last) 16 (z .taken) 48
-      ∙ skip-at (t .sent .bytes) last 16 (z .sent) 32
-      ∙ skip-at (t .hash .bytes) (stateNumber (t .state) ∷ rest) 32 (z .hash) 0
-
-  fields : Transaction
-  fields =
-      record {
-        id = record { bytes = t .id .bytes };
-        board = record { 0 = t .board .0 };
-        kind = t .kind;
-        taken = record { bytes = t .taken .bytes };
-        sent = record { bytes = t .sent .bytes };
-        hash = record { bytes = t .hash .bytes };
-        state = t .state;
-      }
+  state-at : getD (joined fields rest) 83 0 ≡ stateNumber (t .state)
+  state-at = byte-at layout fields laid rest 6 0 (omega arith)
 
   transaction-back : transactionOf (packTransaction t ++ rest) ≡ t
-  unfolding transactionOf fields
+  unfolding transactionOf
   transaction-back =
       let board : 256 * (t .board .0 / 256) + t .board .0 % 256 ≡ t .board .0 = omega arith in
-      let each : transactionOf all ≡ fields = cc (id-at, past-at 0, past-at 1, board, past-at 2, taken-at, sent-at, hash-at, state-at, of-number (t .state)) in
-      ap transactionOf all-is ∙ each
+      ap transactionOf all-is ∙ rw (
+        field-at layout fields laid rest 0 (omega arith),
+        byte-at layout fields laid rest 1 0 (omega arith),
+        byte-at layout fields laid rest 1 1 (omega arith),
+        board,
+        byte-at layout fields laid rest 2 0 (omega arith),
+        field-at layout fields laid rest 3 (omega arith),
+        field-at layout fields laid rest 4 (omega arith),
+        field-at layout fields laid rest 5 (omega arith),
+        byte-at layout fields laid rest 6 0 (omega arith),
+        of-number (t .state),
+      )
 
 packed-length : (t : Transaction) → Sized t → length (packTransaction t) ≡ transactionBytes
 unfolding packTransaction
@@ -184,3 +150,20 @@ pack-unpacked s b ok =
     let tests : (eqb (length s) tableBytes ≡ true) × (statesGood capacity s ≡ true) = both (λ (u : UnpackedTable). u .ok) _ _ refl (eqb (length s) tableBytes) (statesGood capacity s) ok in
     let size : length s ≡ tableBytes = eqb-true _ _ (tests .0) in
     rw (tests .0, tests .1) (rows-again capacity s b (omega arith) (tests .1) ∙ take-all tableBytes s (omega arith))
+
+-- ## What is unpacked has its sizes
+
+rows-sized : (n : ℕ) (s : List ℕ) → n * transactionBytes ≤ length s → AllSized (rowsOf n s)
+unfolding rowsOf transactionOf
+rows-sized zero s h = tt
+rows-sized (suc n) s h = (
+  record { id = part-length 0 16 s (omega arith); taken = part-length 19 16 s (omega arith); sent = part-length 35 16 s (omega arith); hash = part-length 51 32 s (omega arith) },
+  rows-sized n (drop transactionBytes s) (omega (arith, length-drop transactionBytes s)),
+)
+
+pub table-sized : (s : List ℕ) → unpackTable s .ok ≡ true → TableSized (unpackTable s .table)
+unfolding unpackTable
+table-sized s ok =
+    let tests : (eqb (length s) tableBytes ≡ true) × (statesGood capacity s ≡ true) = both (λ (u : UnpackedTable). u .ok) _ _ refl (eqb (length s) tableBytes) (statesGood capacity s) ok in
+    let size : length s ≡ tableBytes = eqb-true _ _ (tests .0) in
+    rw (tests .0, tests .1) (record { slots = length-rows capacity s; each = rows-sized capacity s (omega arith) })

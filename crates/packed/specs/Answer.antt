@@ -2,14 +2,18 @@
 use Prim.Native.Nat.{ℕ}
 use mathlib.Core.List.{List, [], _∷_, _++_}
 use mathlib.Core.Bool.{cond}
-use lib.Dec.{ltb}
+use mathlib.Core.Path.{_≡_}
+use lib.ListN.{drop, getD}
+use lib.Dec.{eqb, ltb}
 use Rattle.message.specs.declared.Fault.{Fault}
 use Rattle.protocol.specs.declared.Outcome.{Outcome}
 use Rattle.protocol.specs.declared.Outcome.the-variants.{Done, Again, Refused}
 use Rattle.protocol.specs.declared.RegistrarAnswer.{RegistrarAnswer}
 use Rattle.protocol.specs.declared.EndEntityAnswer.{EndEntityAnswer}
-use Rattle.packed.specs.Bytes.{flag, eightBytes}
-use Rattle.packed.specs.Outgoing.{failureNumber, packOutgoing}
+use Rattle.packed.specs.Bytes.{flag, flagAt, eightBytes, eightAt}
+use Rattle.packed.specs.Outgoing.{failureNumber, failureOf, packOutgoing, outgoingOf}
+use Rattle.packed.specs.Table.{unpackTable}
+use Rattle.packed.specs.Enrolment.{unpackEnrolment}
 
 -- ## How the call ended
 
@@ -64,3 +68,38 @@ packEndEntityAnswer a =
     packFault (a .fault) ++ (
     (flag (a .sends) ∷ []) ++
     packOutgoing (a .outgoing)))
+
+-- ## What the bytes say: of an answer b, with the state s after the call
+
+unfoldable pub outcomeOf : List ℕ → Outcome
+outcomeOf b = cond (eqb (getD b 0 0) 0) Done (cond (eqb (getD b 0 0) 1) Again (Refused (getD b 1 0) (failureOf (getD b 2 0))))
+
+abbrev pub faultOf : List ℕ → Fault
+faultOf b = record { number = getD b 3 0; at = record { 0 = eightAt 4 b }; rule = getD b 12 0 }
+
+unfoldable pub registrarAnswerOf : (b s : List ℕ) → RegistrarAnswer
+registrarAnswerOf b s =
+    record {
+      outcome = outcomeOf b;
+      fault = faultOf b;
+      slot = record { 0 = getD b 13 0 };
+      sends = flagAt 14 b;
+      outgoing = outgoingOf (drop 15 b);
+      table = unpackTable s .table;
+    }
+
+unfoldable pub endEntityAnswerOf : (b s : List ℕ) → EndEntityAnswer
+endEntityAnswerOf b s =
+    record {
+      outcome = outcomeOf b;
+      fault = faultOf b;
+      sends = flagAt 13 b;
+      outgoing = outgoingOf (drop 14 b);
+      enrolment = unpackEnrolment s .enrolment;
+    }
+
+-- for the theorems: no bit is 255
+abbrev pub OutcomeBack : Outcome → Type 0
+OutcomeBack Done = Unit {0}
+OutcomeBack Again = Unit {0}
+OutcomeBack (Refused n f) = failureOf (failureNumber f) ≡ f

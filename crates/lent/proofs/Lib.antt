@@ -1,0 +1,11 @@
+pub mod EndEntitySizes
+pub mod Kept
+pub mod Made
+pub mod Places
+pub mod ReadBack
+pub mod RegistrarSizes
+pub mod Sizes
+pub mod Stand
+pub mod Start
+pub mod Steps
+pub mod Theorem

@@ -1,0 +1,5 @@
+pub mod Kept
+pub mod Lent
+pub mod Made
+pub mod Places
+pub mod Reads
