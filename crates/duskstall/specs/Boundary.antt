@@ -1,7 +1,7 @@
 -- The calls of both ends over lent bytes: what the bytes stand for goes into the call, and its answer goes back into bytes.
 use Prim.Native.Nat.{ℕ}
 use mathlib.Core.List.{List}
-use mathlib.Core.Bool.{Bool, true, false, cond}
+use mathlib.Core.Bool.{Bool, cond}
 use mathlib.Core.Path.{_≡_}
 use lib.ListN.{length}
 use lib.Dec.{eqb, leb}
@@ -78,9 +78,10 @@ startCrossing args a s b = unlessFaulty (boundaryFault (eqb (length s) enrolment
 
 -- ## What is handed in
 
--- 0 is no, any other number yes
+-- 1 is yes, every other number no, so that a number that means a failure elsewhere is never good
 abbrev pub yes : ℕ → Bool
-yes n = cond (eqb n 0) false true
+yes n = eqb n 1
 
+-- likewise: 1 is good, and the board is named; every other number is bad
 abbrev pub verdictOf : (good board : ℕ) → Verdict
-verdictOf good board = cond (eqb good 0) Bad (Good (record { 0 = board }))
+verdictOf good board = cond (eqb good 1) (Good (record { 0 = board })) Bad

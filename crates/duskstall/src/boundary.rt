@@ -64,19 +64,22 @@ pub(crate) fn both(a: bool, b: bool) -> bool
     if a { b } else { false }
 }
 
+// 1 is yes, every other number no, so that a number that means a failure elsewhere is never good.
+const YES: u8 = 1;
+
 pub(crate) fn yes(n: u8) -> bool
     ensures { λ r. ⌜ r ≡ yes n ⌝ }
 {
-    if n == 0 { false } else { true }
+    n == YES
 }
 
 pub(crate) fn verdict_of(good: u8, board: u16) -> Verdict
     ensures { λ r. ⌜ r ≡ verdictOf good board ⌝ }
 {
-    if good == 0 {
-        return Verdict::Bad;
+    if good == YES {
+        return Verdict::Good(Board(board));
     }
-    Verdict::Good(Board(board))
+    Verdict::Bad
 }
 
 fn outcome_code(o: Outcome) -> u64

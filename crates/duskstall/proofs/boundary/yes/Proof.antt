@@ -4,5 +4,4 @@ use Rattle.duskstall.proofs.boundary.yes.Tie as tie
 
 pub yes-spec : {M : Type 1} → statement M
 yes-spec = tie.close (tie.spec
-    (λ c. search tests)
     (λ c. search tests))
