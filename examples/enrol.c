@@ -42,16 +42,16 @@ static uint64_t registrar_gets(struct ends *e)
 {
     uint8_t nonce[DUSKSTALL_NONCE_BYTES];
     int sender = verify(e->message, e->len);
-    int good = sender > REGISTRAR;
+    uint8_t good = sender > REGISTRAR ? DUSKSTALL_VERDICT_GOOD : DUSKSTALL_VERDICT_BAD;
+    uint16_t board = good == DUSKSTALL_VERDICT_GOOD ? (uint16_t)sender : 0;
     draw(nonce);
     show_message(e->message, e->len);
-    if (good)
+    if (good == DUSKSTALL_VERDICT_GOOD)
         printf("  verdict: good, board %d\n", sender);
     else
         printf("  verdict: bad\n");
-    uint64_t code = duskstall_registrar_message(e->table, sizeof e->table, e->message, e->len, (uint8_t)good,
-                                                (uint16_t)(good ? sender : 0), nonce, sizeof nonce, e->answer,
-                                                sizeof e->answer);
+    uint64_t code = duskstall_registrar_message(e->table, sizeof e->table, e->message, e->len, good, board, nonce,
+                                                sizeof nonce, e->answer, sizeof e->answer);
     show_registrar_answer("registrar message", code, e->answer);
     return code;
 }
@@ -61,15 +61,15 @@ static uint64_t board_gets(struct ends *e)
 {
     uint8_t nonce[DUSKSTALL_NONCE_BYTES], hash[DUSKSTALL_HASH_BYTES] = {0};
     uint64_t fields[DUSKSTALL_FIELDS];
-    int good = verify(e->message, e->len) == REGISTRAR;
+    uint8_t good = verify(e->message, e->len) == REGISTRAR ? DUSKSTALL_VERDICT_GOOD : DUSKSTALL_VERDICT_BAD;
     if (duskstall_read(e->message, e->len, fields, DUSKSTALL_FIELDS) == 0 && fields[DUSKSTALL_FIELD_CERTIFICATE] != 0)
         hash_of(e->message + fields[DUSKSTALL_FIELD_CERTIFICATE], fields[DUSKSTALL_FIELD_CERTIFICATE + 1], hash);
     draw(nonce);
     show_message(e->message, e->len);
-    printf("  verdict: %s\n", good ? "good, the registrar" : "bad");
-    uint64_t code = duskstall_end_entity_message(e->enrolment, sizeof e->enrolment, e->message, e->len, (uint8_t)good,
-                                                 1, hash, sizeof hash, nonce, sizeof nonce, e->answer,
-                                                 sizeof e->answer);
+    printf("  verdict: %s\n", good == DUSKSTALL_VERDICT_GOOD ? "good, the registrar" : "bad");
+    uint64_t code = duskstall_end_entity_message(e->enrolment, sizeof e->enrolment, e->message, e->len, good,
+                                                 DUSKSTALL_DECISION_ACCEPT, hash, sizeof hash, nonce, sizeof nonce,
+                                                 e->answer, sizeof e->answer);
     show_end_entity_answer("end entity message", code, e->answer);
     return code;
 }

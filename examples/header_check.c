@@ -95,7 +95,8 @@ static uint64_t make(int call, struct lent *l)
     const size_t *len = l->len;
     switch (call) {
     case MESSAGE:
-        return duskstall_registrar_message(state, len[STATE], id, 0, 0, 0, nonce, len[NONCE], answer, len[ANSWER]);
+        return duskstall_registrar_message(state, len[STATE], id, 0, DUSKSTALL_VERDICT_BAD, 0, nonce, len[NONCE],
+                                           answer, len[ANSWER]);
     case ISSUE:
         return duskstall_registrar_issue(state, len[STATE], id, len[ID], nonce, len[NONCE], hash, len[HASH], answer,
                                          len[ANSWER]);
@@ -109,7 +110,8 @@ static uint64_t make(int call, struct lent *l)
         return duskstall_end_entity_start(state, len[STATE], DUSKSTALL_IR, id, len[ID], nonce, len[NONCE], answer,
                                           len[ANSWER]);
     case RESPONSE:
-        return duskstall_end_entity_message(state, len[STATE], id, 0, 0, 0, hash, len[HASH], nonce, len[NONCE], answer,
+        return duskstall_end_entity_message(state, len[STATE], id, 0, DUSKSTALL_VERDICT_BAD,
+                                            DUSKSTALL_DECISION_DECLINE, hash, len[HASH], nonce, len[NONCE], answer,
                                             len[ANSWER]);
     default:
         return duskstall_end_entity_time_out(state, len[STATE], answer, len[ANSWER]);
@@ -222,6 +224,59 @@ static void kinds(void)
     }
 }
 
+/* An ip of status 0 with a certificate. Its id and its nonces are zero: it answers an enrolment of zeros. */
+static const uint8_t response[] = {
+    0x30, 0x67, 0x30, 0x4A, 0x02, 0x01, 0x02,                               /* message, header, pvno */
+    0xA4, 0x00, 0xA4, 0x00, 0xA1, 0x05, 0x30, 0x03, 0x06, 0x01, 0x2A,       /* sender, recipient, protectionAlg */
+    0xA4, 0x12, 0x04, 0x10, 0, 0, 0, 0, 0, 0, 0, 0, 0, 0, 0, 0, 0, 0, 0, 0, /* transactionID */
+    0xA5, 0x12, 0x04, 0x10, 0, 0, 0, 0, 0, 0, 0, 0, 0, 0, 0, 0, 0, 0, 0, 0, /* senderNonce */
+    0xA6, 0x12, 0x04, 0x10, 0, 0, 0, 0, 0, 0, 0, 0, 0, 0, 0, 0, 0, 0, 0, 0, /* recipNonce */
+    0xA1, 0x14, 0x30, 0x12, 0x30, 0x10, 0x30, 0x0E, 0x02, 0x01, 0x00,       /* body, one entry, certReqId */
+    0x30, 0x03, 0x02, 0x01, 0x00, 0x30, 0x04, 0xA0, 0x02, 0x30, 0x00,       /* status, certificate */
+    0xA0, 0x03, 0x03, 0x01, 0x00                                            /* protection */
+};
+
+/* A bad verdict is refused by 7 at both ends. At the registrar a good one brings the ip to the next row, 8. */
+static void verdict(int good)
+{
+    int is_good = good == DUSKSTALL_VERDICT_GOOD;
+    struct lent l = lent_for(MESSAGE);
+    duskstall_registrar_message(l.bytes[STATE], l.len[STATE], response, sizeof response, (uint8_t)good, 0,
+                                l.bytes[NONCE], l.len[NONCE], l.bytes[ANSWER], l.len[ANSWER]);
+    expect(is_good ? DUSKSTALL_REFUSED_KIND : DUSKSTALL_REFUSED_VERDICT, l.bytes[ANSWER][DUSKSTALL_ANSWER_REFUSAL],
+           "verdict at the registrar");
+
+    l = lent_for(RESPONSE);
+    uint64_t code = duskstall_end_entity_message(l.bytes[STATE], l.len[STATE], response, sizeof response, (uint8_t)good,
+                                                 DUSKSTALL_DECISION_ACCEPT, l.bytes[HASH], l.len[HASH], l.bytes[NONCE],
+                                                 l.len[NONCE], l.bytes[ANSWER], l.len[ANSWER]);
+    expect(is_good ? DUSKSTALL_DONE : DUSKSTALL_REFUSED, code, "verdict at the end entity");
+    expect(is_good ? 0 : DUSKSTALL_REFUSED_VERDICT, l.bytes[ANSWER][DUSKSTALL_ANSWER_REFUSAL],
+           "verdict at the end entity");
+}
+
+/* An ip that is not accepted is declined. */
+static void decision(int accept)
+{
+    int accepted = accept == DUSKSTALL_DECISION_ACCEPT;
+    struct lent l = lent_for(RESPONSE);
+    uint64_t code = duskstall_end_entity_message(l.bytes[STATE], l.len[STATE], response, sizeof response,
+                                                 DUSKSTALL_VERDICT_GOOD, (uint8_t)accept, l.bytes[HASH], l.len[HASH],
+                                                 l.bytes[NONCE], l.len[NONCE], l.bytes[ANSWER], l.len[ANSWER]);
+    expect(DUSKSTALL_DONE, code, "decision");
+    expect(accepted ? DUSKSTALL_ENROLMENT_CONFIRMING : DUSKSTALL_ENROLMENT_DECLINING,
+           l.bytes[STATE][DUSKSTALL_ENROLMENT_STATE], "decision");
+}
+
+/* Exactly one number is good, and exactly one accepts. */
+static void verdicts_and_decisions(void)
+{
+    for (int number = 0; number < 256; number++) {
+        verdict(number);
+        decision(number);
+    }
+}
+
 /* The limits of the reader, and of the empty table's length. */
 static void limits(void)
 {
@@ -269,6 +324,7 @@ int main(void)
     }
     all_steps();
     kinds();
+    verdicts_and_decisions();
     limits();
     sizes();
     if (!failed)

@@ -21,7 +21,8 @@
  * WHAT THE HOST DOES ITSELF
  *
  *   - It moves the bytes and keeps time. Nothing here waits or sends again; time_out and lapse say that it gave up.
- *   - It verifies protection and hands in what it found: bad, or good; at the registrar, with which board's key.
+ *   - It verifies protection and hands in what it found: good, by the number 1 and no other, or bad; at the registrar,
+ *     with which board's key.
  *   - It draws ids and nonces: 16 random bytes each, none of them twice.
  *   - It issues certificates and hashes them to 32 bytes: at the registrar for issue, at the end entity for a response.
  *   - It decides whether a request is granted and whether a certificate is accepted.
@@ -56,6 +57,7 @@
  *         uint8_t answer[DUSKSTALL_REGISTRAR_ANSWER_BYTES], message[DUSKSTALL_MESSAGE_LIMIT];
  *         uint8_t id[16], nonce[16], hash[32], certificate[256];
  *         uint64_t fields[DUSKSTALL_FIELDS];
+ *         uint8_t good;
  *         size_t len;
  *
  *         duskstall_registrar_empty(table, sizeof table);
@@ -66,8 +68,8 @@
  *         len = encode(duskstall_end_entity_outgoing(answer), 7, message);
  *
  *         draw(nonce);                                                     // the registrar takes it
- *         duskstall_registrar_message(table, sizeof table, message, len, verify(message, len) == 7, 7, nonce, 16,
- *                                     answer, sizeof answer);
+ *         good = verify(message, len) == 7 ? DUSKSTALL_VERDICT_GOOD : DUSKSTALL_VERDICT_BAD;
+ *         duskstall_registrar_message(table, sizeof table, message, len, good, 7, nonce, 16, answer, sizeof answer);
  *         hash_of(certificate, issue_certificate(id, certificate), hash);
  *         draw(nonce);                                                     // and grants it: an ip
  *         duskstall_registrar_issue(table, sizeof table, id, 16, nonce, 16, hash, 32, answer, sizeof answer);
@@ -77,18 +79,20 @@
  *             return 1;
  *         hash_of(message + fields[DUSKSTALL_FIELD_CERTIFICATE], fields[DUSKSTALL_FIELD_CERTIFICATE + 1], hash);
  *         draw(nonce);                                                     // the end entity accepts: a certConf
- *         duskstall_end_entity_message(enrolment, sizeof enrolment, message, len, verify(message, len) == REGISTRAR,
- *                                      1, hash, 32, nonce, 16, answer, sizeof answer);
+ *         good = verify(message, len) == REGISTRAR ? DUSKSTALL_VERDICT_GOOD : DUSKSTALL_VERDICT_BAD;
+ *         duskstall_end_entity_message(enrolment, sizeof enrolment, message, len, good, DUSKSTALL_DECISION_ACCEPT,
+ *                                      hash, 32, nonce, 16, answer, sizeof answer);
  *         len = encode(duskstall_end_entity_outgoing(answer), 7, message);
  *
  *         draw(nonce);                                                     // the registrar takes it: a pkiConf
- *         duskstall_registrar_message(table, sizeof table, message, len, verify(message, len) == 7, 7, nonce, 16,
- *                                     answer, sizeof answer);
+ *         good = verify(message, len) == 7 ? DUSKSTALL_VERDICT_GOOD : DUSKSTALL_VERDICT_BAD;
+ *         duskstall_registrar_message(table, sizeof table, message, len, good, 7, nonce, 16, answer, sizeof answer);
  *         len = encode(duskstall_registrar_outgoing(answer), REGISTRAR, message);
  *
  *         draw(nonce);                                                     // the end entity is Sure
- *         duskstall_end_entity_message(enrolment, sizeof enrolment, message, len, verify(message, len) == REGISTRAR,
- *                                      0, hash, 32, nonce, 16, answer, sizeof answer);
+ *         good = verify(message, len) == REGISTRAR ? DUSKSTALL_VERDICT_GOOD : DUSKSTALL_VERDICT_BAD;
+ *         duskstall_end_entity_message(enrolment, sizeof enrolment, message, len, good, DUSKSTALL_DECISION_DECLINE,
+ *                                      hash, 32, nonce, 16, answer, sizeof answer);
  *         return enrolment[DUSKSTALL_ENROLMENT_STATE] == DUSKSTALL_ENROLMENT_SURE ? 0 : 1;
  *     }
  */
@@ -117,6 +121,22 @@ extern "C" {
 #define DUSKSTALL_REGISTRAR_ANSWER_BYTES 103
 #define DUSKSTALL_END_ENTITY_ANSWER_BYTES 102
 #define DUSKSTALL_FIELDS 47                     /* numbers, of 8 bytes each, that duskstall_read writes */
+
+/* ---- What the host says of a message ----------------------------------------------------------------------------- */
+
+/*
+ * 1 is yes, and every other number no, so that a number that means a failure elsewhere, as -1 does, is never good. Hand
+ * in these constants and not what another library returned.
+ */
+enum duskstall_verdict {
+    DUSKSTALL_VERDICT_BAD = 0, /* and every number but 1 */
+    DUSKSTALL_VERDICT_GOOD = 1 /* the protection was verified */
+};
+
+enum duskstall_decision {
+    DUSKSTALL_DECISION_DECLINE = 0, /* and every number but 1 */
+    DUSKSTALL_DECISION_ACCEPT = 1   /* the host accepts the certificate */
+};
 
 /* ---- What a call returns ----------------------------------------------------------------------------------------- */
 
@@ -435,8 +455,9 @@ uint64_t duskstall_registrar_empty(uint8_t *table, size_t table_len);
  * A message came.
  *
  *   message, message_len   any bytes, any number of them
- *   good                   0: the protection is bad, or absent; else it was made with the key of this board:
- *   board                  its number; not used if good is 0
+ *   good                   DUSKSTALL_VERDICT_GOOD: the protection was made with the key of this board; every other
+ *                          number: it is bad, or absent
+ *   board                  its number; not used if the verdict is bad
  *
  * A request: the lowest free slot becomes Asked, for this board. Nothing is to be sent; the host goes on with issue or
  * refuse. Refused by 1 to 7, 9 to 11, 15, 16.
@@ -509,8 +530,10 @@ uint64_t duskstall_end_entity_start(uint8_t *enrolment, size_t enrolment_len, ui
  * A message came.
  *
  *   message, message_len   any bytes, any number of them
- *   good                   0: the protection is bad, or absent; else it was made with the registrar's key
- *   accept                 whether the host accepts the certificate in it, 0: no; used at a response of status 0 or 1
+ *   good                   DUSKSTALL_VERDICT_GOOD: the protection was made with the registrar's key; every other
+ *                          number: it is bad, or absent
+ *   accept                 DUSKSTALL_DECISION_ACCEPT: the host accepts the certificate in it; every other number: it
+ *                          does not; used at a response of status 0 or 1
  *   hash, hash_len         DUSKSTALL_HASH_BYTES: of that certificate; used at a response of status 0 or 1
  *
  * The response to its request, at Asked: status 2 gives Failed; 0 or 1 gives Confirming or Declining, and a certConf
