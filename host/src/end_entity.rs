@@ -97,17 +97,17 @@ impl EndEntity {
         decision: Decision,
         nonce: Nonce,
     ) -> EndEntityAnswer {
-        let (accept, hash) = (decision.accept.into(), &decision.hash.0);
+        let good = match good {
+            true => library::VERDICT_GOOD,
+            false => library::VERDICT_BAD,
+        };
+        let accept = match decision.accept {
+            true => library::DECISION_ACCEPT,
+            false => library::DECISION_DECLINE,
+        };
+        let hash = &decision.hash.0;
         self.call(|enrolment, answer| {
-            library::end_entity_message(
-                enrolment,
-                message,
-                good.into(),
-                accept,
-                hash,
-                &nonce.0,
-                answer,
-            )
+            library::end_entity_message(enrolment, message, good, accept, hash, &nonce.0, answer)
         })
     }
 

@@ -15,6 +15,19 @@ pub const BAD_LENGTH: u64 = 252;
 /// A call's number where the answer has no room.
 pub const NO_ROOM: u64 = 253;
 
+/// A good verdict. This number alone is good: one that means a failure
+/// elsewhere, as -1 does, never is.
+pub const VERDICT_GOOD: u8 = 1;
+
+/// A bad verdict, as every number but [`VERDICT_GOOD`] is.
+pub const VERDICT_BAD: u8 = 0;
+
+/// The host accepts the certificate. This number alone accepts.
+pub const DECISION_ACCEPT: u8 = 1;
+
+/// It does not, as by every number but [`DECISION_ACCEPT`].
+pub const DECISION_DECLINE: u8 = 0;
+
 // SAFETY, of every call below: each pointer comes with the length of the slice
 // it was taken from, which stays borrowed during the call. The library only
 // reads what is lent `const`, reads and writes nothing outside of the slices
@@ -63,7 +76,8 @@ pub fn registrar_empty(table: &mut [u8]) -> u64 {
     unsafe { foreign::duskstall_registrar_empty(table.as_mut_ptr(), table.len()) }
 }
 
-/// A message to the registrar. `good` 0 is a bad verdict; else it is good and names `board`.
+/// A message to the registrar. `good` is [`VERDICT_GOOD`] where its protection
+/// was made with the key of `board`; every other number is a bad verdict.
 pub fn registrar_message(
     table: &mut [u8],
     message: &[u8],
@@ -185,7 +199,10 @@ pub fn end_entity_start(
     }
 }
 
-/// A message to an end entity. `good` and `accept`: 0 is no, all else yes.
+/// A message to an end entity. `good` is [`VERDICT_GOOD`] where its protection
+/// was made with the registrar's key; every other number is a bad verdict.
+/// `accept` is [`DECISION_ACCEPT`] where the host accepts the certificate; every
+/// other number declines it.
 pub fn end_entity_message(
     enrolment: &mut [u8],
     message: &[u8],

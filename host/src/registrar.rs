@@ -87,8 +87,8 @@ impl Registrar {
     /// A message of any bytes. `nonce` is fresh, for what is sent.
     pub fn message(&mut self, message: &[u8], verdict: Verdict, nonce: Nonce) -> RegistrarAnswer {
         let (good, board) = match verdict {
-            Verdict::Bad => (0, 0),
-            Verdict::Good(board) => (1, board.0),
+            Verdict::Bad => (library::VERDICT_BAD, 0),
+            Verdict::Good(board) => (library::VERDICT_GOOD, board.0),
         };
         self.call(|table, answer| {
             library::registrar_message(table, message, good, board, &nonce.0, answer)

@@ -1,5 +1,6 @@
 //! The compiled library against the model: every number, answer and state, and
 //! every byte around them, on lists of calls drawn at random from a fixed seed.
+//! And every number by which the host says yes or no.
 
 #[path = "both_ends/calls.rs"]
 mod calls;
@@ -7,6 +8,8 @@ mod calls;
 mod change;
 #[path = "both_ends/draw.rs"]
 mod draw;
+#[path = "both_ends/numbers.rs"]
+mod numbers;
 #[path = "both_ends/pack.rs"]
 mod pack;
 #[path = "both_ends/pool.rs"]

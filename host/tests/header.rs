@@ -1,6 +1,6 @@
-//! Holds `include/duskstall.h` to this crate: sizes, codes, states, places, and
-//! the refusals with their bits and words. `examples/header_check.c` holds it
-//! to the library from C.
+//! Holds `include/duskstall.h` to this crate: sizes, codes, verdicts, decisions,
+//! states, places, and the refusals with their bits and words.
+//! `examples/header_check.c` holds it to the library from C.
 
 #[path = "header/refusals.rs"]
 mod refusals;
@@ -53,6 +53,18 @@ fn sizes_and_codes() {
         ("FEW_FIELDS", code(compiled::TOO_FEW_FIELDS)),
     ] {
         assert_eq!(value(name), expected, "{name}");
+    }
+}
+
+#[test]
+fn verdicts_and_decisions() {
+    for (name, expected) in [
+        ("VERDICT_GOOD", library::VERDICT_GOOD),
+        ("VERDICT_BAD", library::VERDICT_BAD),
+        ("DECISION_ACCEPT", library::DECISION_ACCEPT),
+        ("DECISION_DECLINE", library::DECISION_DECLINE),
+    ] {
+        assert_eq!(value(name), expected.into(), "{name}");
     }
 }
 

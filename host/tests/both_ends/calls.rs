@@ -86,8 +86,8 @@ impl RegistrarCall {
                 nonce,
             } => {
                 let verdict = match good {
-                    0 => Verdict::Bad,
-                    _ => Verdict::Good(Board(*board)),
+                    1 => Verdict::Good(Board(*board)),
+                    _ => Verdict::Bad,
                 };
                 model.message(message, verdict, to_nonce(nonce)?)
             }
@@ -144,7 +144,7 @@ impl Call for EndEntityCall {
         match self {
             Start { kind, id, nonce } => start(*kind, id, nonce, state, answer),
             Message(given) => step(state, answer, |model| {
-                let (good, accept) = (given.good != 0, given.accept != 0);
+                let (good, accept) = (given.good == 1, given.accept == 1);
                 let (hash, nonce) = (to_hash(&given.hash)?, to_nonce(&given.nonce)?);
                 Some(model.message(&given.message, good, Decision { accept, hash }, nonce))
             }),

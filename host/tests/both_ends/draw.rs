@@ -121,7 +121,7 @@ pub fn registrar_call(random: &mut Random, pool: &Pool, table: &[u8]) -> Registr
         3 => RegistrarCall::Close { id },
         _ => RegistrarCall::Message {
             message: message_to_registrar(random, pool, &about),
-            good: verdict(random),
+            good: yes_or_no(random),
             board: if random.once_in(8) {
                 board(random).0
             } else {
@@ -148,11 +148,11 @@ pub fn end_entity_call(random: &mut Random, pool: &Pool, enrolment: &[u8]) -> En
         },
         _ => EndEntityCall::Message(EndEntityMessage {
             message: message_to_end_entity(random, pool, enrolment),
-            good: verdict(random),
+            good: yes_or_no(random),
             accept: if random.once_in(2) {
                 0
             } else {
-                verdict(random)
+                yes_or_no(random)
             },
             hash: lent(&pool.hash(random).0, random),
             nonce,
@@ -160,11 +160,13 @@ pub fn end_entity_call(random: &mut Random, pool: &Pool, enrolment: &[u8]) -> En
     }
 }
 
-/// Mostly 1; 0 is bad, and all else good.
-fn verdict(random: &mut Random) -> u8 {
-    match random.below(12) {
+/// Mostly 1, which alone is good or accepts; else 0, a number that could be
+/// taken for yes, or any.
+fn yes_or_no(random: &mut Random) -> u8 {
+    match random.below(24) {
         0 => 0,
-        1 => random.byte(),
+        1 => *random.pick(&[2, 254, 255]),
+        2 => random.byte(),
         _ => 1,
     }
 }
