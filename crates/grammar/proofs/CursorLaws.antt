@@ -20,7 +20,7 @@ use Rattle.grammar.specs.Cursor.{isOk, headIn, faultAt, pastOf, ifTag, p
 
 -- a whole element that stands between two offsets ends inside, and the second lies inside the message
 module _ (m : List ℕ) (at end : ℕ) {tag start len : ℕ} (whole : headIn m at end ≡ Whole tag start len) where
-  stands : (at < end) × (end ≤ length m) × (headOf (take (end - at) (drop at m)) ≡ Whole tag start len)
+  pub stands : (at < end) × (end ≤ length m) × (headOf (take (end - at) (drop at m)) ≡ Whole tag start len)
   unfolding headIn
   stands =
       cond-both (λ (h : Head). h ≡ Whole tag start len → (at < end) × (end ≤ length m) × (headOf (take (end - at) (drop at m)) ≡ Whole tag start len))

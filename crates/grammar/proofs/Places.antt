@@ -128,7 +128,7 @@ at-leave P {o} i f k = subst P (sym (left o i k .1)) (f (subst Ok (left o i k .1
 abbrev pub inOf : Cursor → Cursor
 inOf s = record { at = s .from; end = s .to; from = 0; to = 0; rule = 0 }
 
-entered : (s : Cursor) → Ok (enterOf s) → Ok s × (enterOf s ≡ inOf s)
+pub entered : (s : Cursor) → Ok (enterOf s) → Ok s × (enterOf s ≡ inOf s)
 unfolding enterOf
 entered s = cond-both (λ (r : Cursor). Ok r → Ok s × (r ≡ inOf s)) (isOk s) (λ q k. (q, refl)) (λ q k. untrue (sym q ∙ k))
 

@@ -1,0 +1,41 @@
+-- The examples, computed.
+use mathlib.Core.Path.{_≡_, refl}
+use Rattle.der.specs.Head.{tagOk, inside, oneByte, twoBytes, lengthOf, headOf}
+use Rattle.paths.specs.Walk.{some-of-row, row, walk}
+use Rattle.paths.specs.Integer.{unsigned, integerOf}
+use Rattle.paths.specs.Table.{placeOf, pathOf, spanAt}
+use Rattle.paths.specs.Examples.{w, OnW, TwoNumbers}
+
+pub on-w : OnW
+unfolding w placeOf pathOf spanAt walk row some-of-row headOf lengthOf oneByte twoBytes inside tagOk integerOf unsigned
+on-w =
+    record {
+      header = refl;
+      sender = refl;
+      recipient = refl;
+      messageTime = refl;
+      protectionAlg = refl;
+      senderKID = refl;
+      recipKID = refl;
+      transactionID = refl;
+      senderNonce = refl;
+      recipNonce = refl;
+      freeText = refl;
+      generalInfo = refl;
+      body = refl;
+      caPubs = refl;
+      certHash = refl;
+      hashAlg = refl;
+      certificate = refl;
+      request = refl;
+      protection = refl;
+      extraCerts = refl;
+      pvno = refl;
+      certReqId = refl;
+      hasStatus = refl;
+      entries = refl;
+    }
+
+pub two-numbers : TwoNumbers
+unfolding row some-of-row headOf lengthOf oneByte twoBytes inside tagOk integerOf unsigned
+two-numbers = record { less = refl; more = refl }
