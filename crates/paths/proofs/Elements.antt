@@ -57,7 +57,8 @@ module _ (m : List ℕ) where
   head-stands e a {t} {start} {len} q =
       let w = whole-in (take (e - a) (drop a m)) refl q in
       let size : start + len ≤ e - a = omega (arith, w .2, length-take (e - a) (drop a m)) in
-      let one : headOf (take (start + len) (drop a m)) ≡ Whole t start len = ap headOf (sym (take-take (start + len) (e - a) (drop a m) size)) ∙ cut (take (e - a) (drop a m)) q in
+      let one : headOf (take (start + len) (drop a m)) ≡ Whole t start len =
+      ap headOf (sym (take-take (start + len) (e - a) (drop a m) size)) ∙ cut (take (e - a) (drop a m)) q in
       let x : a + start + len - a ≡ start + len = omega arith in
       let y : a + start - a ≡ start = omega arith in
       let z : a + start + len - (a + start) ≡ len = omega arith in
@@ -76,7 +77,9 @@ module _ (m : List ℕ) where
     where
       go : (o : Head) → headOf (take (e - a) (drop a m)) ≡ o → ((b : ℕ) → Every b (some-of-row m e n b)) → Every a (withHead (some-of-row m e n) a o)
       go (Bad rule) q f = tt
-      go (Whole t start len) q f = (head-stands e a q, every-lower a (a + start + len) (omega arith) (some-of-row m e n (a + start + len)) (f (a + start + len)))
+      go (Whole t start len) q f =
+          let b : ℕ = a + start + len in
+          (head-stands e a q, every-lower a b (omega arith) (some-of-row m e n b) (f b))
 
   module _ (a : ℕ) where
     every-drop : (k : ℕ) (ns : List Node) → Every a ns → Every a (drop k ns)
@@ -139,7 +142,8 @@ pub walk-deep : (m : List ℕ) (p : Path) → deep p ≡ true → Maybe m 1 (wal
 unfolding walk
 walk-deep m message d = untrue d
 walk-deep m (p ▸ s) d = onward-stands m s (walk m p) (walk-stands m p)
-walk-deep m (p or q) d = of-either m 1 (walk m p) (walk m q) (walk-deep m p (and-left (deep p) (deep q) d)) (walk-deep m q (and-right (deep p) (deep q) d))
+walk-deep m (p or q) d =
+    of-either m 1 (walk m p) (walk m q) (walk-deep m p (and-left (deep p) (deep q) d)) (walk-deep m q (and-right (deep p) (deep q) d))
 
 -- ## Absent exactly at 0
 
@@ -238,7 +242,9 @@ walk-tag : (m : List ℕ) (t : ℕ) (p : Path) → endsIn t p ≡ true → Tagge
 unfolding walk
 walk-tag m t message e = subst (λ (j : ℕ). Tagged j (alone 0x30 (row m 0 (length m)))) (eqb-true 0x30 t e) (alone-tag 0x30 (row m 0 (length m)))
 walk-tag m t (p ▸ s) e = onward-tag m t s (walk m p) e
-walk-tag m t (p or q) e = either-tag t (walk m p) (walk m q) (walk-tag m t p (and-left (endsIn t p) (endsIn t q) e)) (walk-tag m t q (and-right (endsIn t p) (endsIn t q) e))
+walk-tag m t (p or q) e =
+    either-tag t (walk m p) (walk m q)
+    (walk-tag m t p (and-left (endsIn t p) (endsIn t q) e)) (walk-tag m t q (and-right (endsIn t p) (endsIn t q) e))
 
 -- ## One element
 

@@ -9,7 +9,8 @@ use Rattle.grammar.specs.Cursor.{shiftIn, signed32}
 use Rattle.paths.specs.Integer.{unsigned, negative, integerOf}
 
 -- the first bit being set or not
-by-first-bit : (b : Bool) (s : List ℕ) → length s ≤ 4 → shiftIn (cond b 4294967295 0) s ≡ cond b (2 ^ 32 + unsigned s - 256 ^ length s) (unsigned s) % 2 ^ 32
+by-first-bit : (b : Bool) (s : List ℕ) → length s ≤ 4
+    → shiftIn (cond b 4294967295 0) s ≡ cond b (2 ^ 32 + unsigned s - 256 ^ length s) (unsigned s) % 2 ^ 32
 unfolding shiftIn unsigned
 by-first-bit true [] h = refl
 by-first-bit true (w ∷ []) h = omega arith

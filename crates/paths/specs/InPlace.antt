@@ -14,7 +14,8 @@ use Rattle.message.specs.Read.{readingOf}
 use Rattle.paths.specs.Walk.{walk}
 use Rattle.paths.specs.Walk.Step.{any}
 use Rattle.paths.specs.Walk.Path.{message, _▸_}
-use Rattle.paths.specs.Table.{SEQUENCE, context, primitive, Part, Number, placeOf, pathIn, pathOf, statusInfo, entryList, handed, told, spanAt, numberAt, found, sizeAt, tagOf}
+use Rattle.paths.specs.Table.{SEQUENCE, context, primitive, Part, Number, placeOf, pathIn, pathOf, statusInfo, entryList, handed, told}
+use Rattle.paths.specs.Table.{spanAt, numberAt, found, sizeAt, tagOf}
 
 -- ## Every part in its place
 
