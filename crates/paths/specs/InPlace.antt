@@ -1,5 +1,5 @@
 -- Demand 2, "each field is found exactly where the standard puts it": what holds of a message x that was read from the bytes m.
-use Prim.Native.Nat.{ℕ, _+_}
+use Prim.Native.Nat.{ℕ, _+_, _≤_}
 use mathlib.Core.Path.{_≡_}
 use mathlib.Core.List.{List}
 use mathlib.Core.Logic.{_↔_, _≢_}
@@ -15,7 +15,7 @@ use Rattle.paths.specs.Walk.{walk}
 use Rattle.paths.specs.Walk.Step.{any}
 use Rattle.paths.specs.Walk.Path.{message, _▸_}
 use Rattle.paths.specs.Table.{SEQUENCE, context, primitive, Part, Number, placeOf, pathIn, pathOf, statusInfo, entryList, handed, told}
-use Rattle.paths.specs.Table.{spanAt, numberAt, found, sizeAt, tagOf}
+use Rattle.paths.specs.Table.{spanAt, numberAt, lengthAt, found, sizeAt, tagOf}
 
 -- ## Every part in its place
 
@@ -25,8 +25,9 @@ pub record InPlace (m : List ℕ) (x : Message) : Type 0 where
   -- it begins at 0 exactly where no element stands at its path, and then it has no bytes
   pub absent : (p : Part) → (handed x p .start .0 ≡ 0) ↔ (walk m (pathIn (placeOf p)) ≡ none)
   pub empty : (p : Part) → handed x p .start .0 ≡ 0 → handed x p .len ≡ 0
-  -- a number is what the INTEGER at its path says, 0 where none stands there
+  -- a number is what the INTEGER at its path says, 0 where none stands there; four bytes at most say it, so that 32 bits hold it
   pub numbers : (n : Number) → told x n ≡ numberAt m (walk m (pathOf n))
+  pub small : (n : Number) → lengthAt (walk m (pathOf n)) ≤ 4
   -- there is a status exactly where there is a PKIStatusInfo
   pub hasStatus : x .contents .entry .«has_status» ≡ found (walk m statusInfo)
   -- the entries are the components of what holds them

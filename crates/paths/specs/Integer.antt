@@ -15,6 +15,6 @@ abbrev pub negative : List ℕ → Bool
 negative s = leb 128 (getD s 0 0)
 
 -- Where that bit is set, n bytes say what they say as digits, less 256 ^ n. The number is handed on in 32 bits, modulo 2 ^ 32, so
--- that -1 is 2 ^ 32 - 1. No more than four bytes come.
+-- that -1 is 2 ^ 32 - 1; this is said of at most four bytes, and more are never read (`small` of InPlace.antt).
 unfoldable pub integerOf : List ℕ → ℕ
 integerOf s = cond (negative s) (2 ^ 32 + unsigned s - 256 ^ length s) (unsigned s) % 2 ^ 32
