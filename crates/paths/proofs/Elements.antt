@@ -18,7 +18,7 @@ use Rattle.der.proofs.Auto.{and-left, and-right}
 use Rattle.der.proofs.HeadLaws.{cond-both, cond-case, whole-in}
 use Rattle.grammar.specs.declared.Span.{Span}
 use Rattle.grammar.proofs.CursorLaws.{untrue}
-use Rattle.paths.specs.Walk.{Node, Step, Path, withHead, some-of-row, row, first, tagged, seek, alone, choose, into, onward, either, walk}
+use Rattle.paths.specs.Walk.{Node, Step, Path, withHead, rowUpTo, row, first, tagged, seek, alone, choose, into, onward, either, walk}
 use Rattle.paths.specs.Walk.Step.{any, item, option, only}
 use Rattle.paths.specs.Walk.Path.{message, _▸_, _or_}
 use Rattle.paths.specs.Table.{Part, Place, placeOf, pathIn, spanFrom, wholeAt, contentAt, spanAt}
@@ -70,16 +70,16 @@ module _ (m : List ℕ) where
         head = rw (x, y, z) one;
       }
 
-  every-row : (e n a : ℕ) → Every a (some-of-row m e n a)
-  unfolding some-of-row
+  every-row : (e n a : ℕ) → Every a (rowUpTo m e n a)
+  unfolding rowUpTo
   every-row e zero a = tt
   every-row e (suc n) a = go (headOf (take (e - a) (drop a m))) refl (every-row e n)
     where
-      go : (o : Head) → headOf (take (e - a) (drop a m)) ≡ o → ((b : ℕ) → Every b (some-of-row m e n b)) → Every a (withHead (some-of-row m e n) a o)
+      go : (o : Head) → headOf (take (e - a) (drop a m)) ≡ o → ((b : ℕ) → Every b (rowUpTo m e n b)) → Every a (withHead (rowUpTo m e n) a o)
       go (Bad rule) q f = tt
       go (Whole t start len) q f =
           let b : ℕ = a + start + len in
-          (head-stands e a q, every-lower a b (omega arith) (some-of-row m e n b) (f b))
+          (head-stands e a q, every-lower a b (omega arith) (rowUpTo m e n b) (f b))
 
   module _ (a : ℕ) where
     every-drop : (k : ℕ) (ns : List Node) → Every a ns → Every a (drop k ns)

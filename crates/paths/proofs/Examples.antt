@@ -1,13 +1,13 @@
 -- The examples, computed.
-use mathlib.Core.Path.{_≡_, refl}
+use mathlib.Core.Path.{refl}
 use Rattle.der.specs.Head.{tagOk, inside, oneByte, twoBytes, lengthOf, headOf}
-use Rattle.paths.specs.Walk.{some-of-row, row, walk}
+use Rattle.paths.specs.Walk.{rowUpTo, row, walk}
 use Rattle.paths.specs.Integer.{unsigned, integerOf}
 use Rattle.paths.specs.Table.{placeOf, pathOf, spanAt}
-use Rattle.paths.specs.Examples.{w, OnW, TwoNumbers}
+use Rattle.paths.specs.Examples.{w, OnW, TwoIntegers}
 
 pub on-w : OnW
-unfolding w placeOf pathOf spanAt walk row some-of-row headOf lengthOf oneByte twoBytes inside tagOk integerOf unsigned
+unfolding w placeOf pathOf spanAt walk row rowUpTo headOf lengthOf oneByte twoBytes inside tagOk integerOf unsigned
 on-w =
     record {
       header = refl;
@@ -36,6 +36,6 @@ on-w =
       entries = refl;
     }
 
-pub two-numbers : TwoNumbers
-unfolding row some-of-row headOf lengthOf oneByte twoBytes inside tagOk integerOf unsigned
-two-numbers = record { less = refl; more = refl }
+pub two-integers : TwoIntegers
+unfolding row rowUpTo headOf lengthOf oneByte twoBytes inside tagOk integerOf unsigned
+two-integers = record { less = refl; more = refl }

@@ -11,7 +11,7 @@ use lib.Dec.{ltb, leb, eqb, lit<}
 use Rattle.der.specs.Head.{byte, tagOk, inside, oneByte, twoBytes, lengthOf, headOf}
 use Rattle.der.specs.declared.head.Head.{Head}
 use Rattle.der.specs.declared.head.Head.the-variants.{Bad, Whole}
-use Rattle.der.proofs.Auto.{or-false-left, or-false-right}
+use Rattle.der.proofs.Auto.{or-false-right}
 use Rattle.der.proofs.HeadLaws.{cond-both, cond-case, whole-in}
 
 -- a head of s is read from t as well, where t has the head's bytes and room for the content

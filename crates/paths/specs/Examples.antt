@@ -58,13 +58,13 @@ pub record OnW : Type 0 where
   pub hasStatus : found (walk w statusInfo) ≡ false
   pub entries : sizeAt w (walk w entryList) ≡ 1
 
--- ## Two numbers
+-- ## Two integers
 
 -- the number that the INTEGER at the beginning says
 abbrev pub numberIn : List ℕ → ℕ
 numberIn s = numberAt s (first (row s 0 (length s)))
 
 -- -1, as 32 bits of two's complement, and 128
-pub record TwoNumbers : Type 0 where
+pub record TwoIntegers : Type 0 where
   pub less : numberIn (0x02 ∷ 0x01 ∷ 0xFF ∷ []) ≡ 0xFFFFFFFF
   pub more : numberIn (0x02 ∷ 0x02 ∷ 0x00 ∷ 0x80 ∷ []) ≡ 128

@@ -35,7 +35,7 @@ pub record InPlace (m : List ℕ) (x : Message) : Type 0 where
   -- the kind is the number of the body's tag
   pub kind : tagOf (walk m (message ▸ any 1)) ≡ context (x .contents .kind)
 
--- THE THEOREM: `as-the-standard-says` in proofs/Agree.antt
+-- THE THEOREM: `as-the-standard-says` in proofs/Theorem.antt
 abbrev pub AsTheStandardSays : Type 0
 AsTheStandardSays = (m : List ℕ) (x : Message) → readingOf m ≡ Clean x → InPlace m x
 
@@ -90,6 +90,6 @@ pub record WholeElements (m : List ℕ) (x : Message) : Type 0 where
   pub request : x .contents .kind ≢ 4 → OneIfThere SEQUENCE m (x .contents .entry .request)
   pub p10cr : x .contents .kind ≡ 4 → (tag : ℕ) × OneElement tag (bytesOf m (x .contents .entry .request))
 
--- THE THEOREM: `all-whole` in proofs/Agree.antt
+-- THE THEOREM: `all-whole` in proofs/Theorem.antt
 abbrev pub AllWhole : Type 0
 AllWhole = (m : List ℕ) (x : Message) → readingOf m ≡ Clean x → WholeElements m x
