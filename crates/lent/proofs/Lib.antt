@@ -1,4 +1,6 @@
 pub mod EndEntitySizes
+pub mod Events
+pub mod Header
 pub mod Kept
 pub mod Made
 pub mod Places
@@ -9,3 +11,4 @@ pub mod Stand
 pub mod Start
 pub mod Steps
 pub mod Theorem
+pub mod Witness

@@ -1,0 +1,172 @@
+-- Demand 3 as the C header says it: premises and claim at its places in the lent bytes, nothing unpacked, and the calls by what they returned.
+use Prim.Native.Nat.{ℕ, _<_}
+use mathlib.Core.List.{List, [], _∷_}
+use mathlib.Core.Bool.{true, false}
+use mathlib.Core.Option.{some}
+use mathlib.Core.Path.{_≡_}
+use mathlib.Core.Logic.{_⊎_, _≢_, _↔_}
+use lib.ListN.{length, getElem?}
+use lib.Dec.{ltb}
+use Rattle.grammar.specs.declared.Message.{Message}
+use Rattle.message.specs.Read.{readingOf}
+use Rattle.message.specs.declared.Reading.{Reading}
+use Rattle.message.specs.declared.Reading.the-variants as read
+use Rattle.protocol.specs.Table.{capacity}
+use Rattle.protocol.specs.Run.{End, TheRegistrar, OneBoard}
+use Rattle.protocol.specs.Agreement.{PartIs, HasPart, Fair}
+use Rattle.packed.specs.Table.{tableBytes}
+use Rattle.lent.specs.Lent.{LentCall, LentStart, LentToRegistrar, LentToEndEntity, LentIssue, LentRefuse, LentLapse, LentClose, LentTimeOut, LentEnrolment, LentEvent, LentWorld, isMade, lentAfter, lentBeginning, worldOf}
+use Rattle.lent.specs.Places.{transactionId, transactionBoard, transactionSent, transactionHash, transactionState, enrolmentId, enrolmentHash, enrolmentState, outgoingKind, outgoingId, outgoingSenderNonce, outgoingHasRecipNonce, outgoingRecipNonce, outgoingHasStatus, outgoingStatus, outgoingHash, outgoingIn, sendsIn}
+
+-- ## What was done
+
+-- a call that was made is such
+abbrev pub SomeMade : (LentEvent → Type 0) → List LentEvent → Type 0
+SomeMade P [] = ⊥
+SomeMade P (e ∷ past) = ((isMade (e .code) ≡ true) × P e) ⊎ SomeMade P past
+
+-- at this end a call gave a message to be sent whose bytes are such
+abbrev pub Sent : End → (List ℕ → Type 0) → List LentEvent → Type 0
+Sent p P = SomeMade (λ e. (e .end ≡ p) × (sendsIn e ≡ 1) × P (outgoingIn e))
+
+-- a start with this id, a close for this id
+abbrev pub IsStart : List ℕ → LentCall → Type 0
+IsStart i (LentStart b s k j n a) = j ≡ i
+IsStart i (LentToRegistrar bytes g b n a) = ⊥
+IsStart i (LentToEndEntity k bytes g c h n a) = ⊥
+IsStart i (LentIssue j n h a) = ⊥
+IsStart i (LentRefuse j n a) = ⊥
+IsStart i (LentLapse j a) = ⊥
+IsStart i (LentClose j a) = ⊥
+IsStart i (LentTimeOut k a) = ⊥
+
+abbrev pub IsClose : List ℕ → LentCall → Type 0
+IsClose i (LentStart b s k j n a) = ⊥
+IsClose i (LentToRegistrar bytes g b n a) = ⊥
+IsClose i (LentToEndEntity k bytes g c h n a) = ⊥
+IsClose i (LentIssue j n h a) = ⊥
+IsClose i (LentRefuse j n a) = ⊥
+IsClose i (LentLapse j a) = ⊥
+IsClose i (LentClose j a) = j ≡ i
+IsClose i (LentTimeOut k a) = ⊥
+
+-- it was made and not refused: the number returned is below 2
+abbrev pub Taken : LentEvent → Type 0
+Taken e = ltb (e .code) 2 ≡ true
+
+-- ## The premises
+
+-- the message m, in these bytes, is what the bytes o say is to be sent
+pub record CarriesBytes (bytes : List ℕ) (m : Message) (o : List ℕ) : Type 0 where
+  -- "the same kind, id and nonces,"
+  pub kind : m .contents .kind ≡ outgoingKind o
+  pub id : HasPart bytes (m .fields .«transaction_id») (outgoingId o)
+  pub senderNonce : HasPart bytes (m .fields .«sender_nonce») (outgoingSenderNonce o)
+  pub recipNonce : outgoingHasRecipNonce o ≡ 1 → HasPart bytes (m .fields .«recip_nonce») (outgoingRecipNonce o)
+  pub noRecipNonce : outgoingHasRecipNonce o ≢ 1 → m .fields .«recip_nonce» .start .0 ≡ 0
+  -- "the same status where the order has one (in a certConf none counts as 0),"
+  pub status : outgoingHasStatus o ≡ 1 → (m .contents .kind ≡ 23) ⊎ (m .contents .entries ≡ 1) → ((m .contents .entry .«has_status» ≡ true) × (m .contents .entry .status ≡ outgoingStatus o)) ⊎ ((m .contents .kind ≡ 24) × (m .contents .entry .«has_status» ≡ false) × (outgoingStatus o ≡ 0))
+  -- "and in a certConf the same hash."
+  pub hash : m .contents .kind ≡ 24 → m .contents .entries ≡ 1 → PartIs bytes (m .contents .entry .«cert_hash») (outgoingHash o)
+
+-- nothing is asked of bytes that do not read
+abbrev pub IssuedBytes : End → List ℕ → Reading → List LentEvent → Type 0
+IssuedBytes p bytes (read.Refused f) past = Unit {0}
+IssuedBytes p bytes (read.Clean m) past = Sent p (CarriesBytes bytes m) past
+
+-- "a good verdict is given only for messages the named sender issued": good is 1
+abbrev pub GoodIssued : LentCall → List LentEvent → Type 0
+GoodIssued (LentStart b s k i n a) past = Unit {0}
+GoodIssued (LentToRegistrar bytes g b n a) past = g ≡ 1 → IssuedBytes (OneBoard (record { 0 = b })) bytes (readingOf bytes) past
+GoodIssued (LentToEndEntity k bytes g c h n a) past = g ≡ 1 → IssuedBytes TheRegistrar bytes (readingOf bytes) past
+GoodIssued (LentIssue i n h a) past = Unit {0}
+GoodIssued (LentRefuse i n a) past = Unit {0}
+GoodIssued (LentLapse i a) past = Unit {0}
+GoodIssued (LentClose i a) past = Unit {0}
+GoodIssued (LentTimeOut k a) past = Unit {0}
+
+-- of one call that was made, after those of the list
+pub record FairBytesEvent (e : LentEvent) (past : List LentEvent) : Type 0 where
+  pub verdict : GoodIssued (e .call) past
+  -- "no id or nonce is drawn twice": an id is drawn when a start takes it, a nonce when it is sent as senderNonce
+  pub id : (i : List ℕ) → Taken e × IsStart i (e .call) → SomeMade (λ f. Taken f × IsStart i (f .call)) past → ⊥
+  pub nonce : sendsIn e ≡ 1 → (p : End) → Sent p (λ o. outgoingSenderNonce (outgoingIn e) ≡ outgoingSenderNonce o) past → ⊥
+
+abbrev pub FairBytes : List LentEvent → Type 0
+FairBytes [] = Unit {0}
+FairBytes (e ∷ past) = (isMade (e .code) ≡ true → FairBytesEvent e past) × FairBytes past
+
+-- ## The claim
+
+-- a slot of the table has the enrolment's id, this response nonce, this state and the same hash
+abbrev pub InSlot : (table enrolment nonce : List ℕ) → (state : ℕ) → Type 0
+InSlot t s n k =
+    (p : ℕ)
+    × (p < capacity)
+    × (transactionId p t ≡ enrolmentId s)
+    × (transactionSent p t ≡ n)
+    × (transactionState p t ≡ k)
+    × (transactionHash p t ≡ enrolmentHash s)
+
+-- "closed by the first close for the id, not refused, after the call that sent this nonce"
+abbrev pub ClosedBytes : (id nonce : List ℕ) → List LentEvent → Type 0
+ClosedBytes i n [] = ⊥
+ClosedBytes i n (e ∷ past) = (Taken e × IsClose i (e .call) × Sent TheRegistrar (λ o. outgoingSenderNonce o ≡ n) past) ⊎ ClosedBytes i n past
+
+-- a certConf for the enrolment, with this recipNonce; its board sent one
+abbrev pub IsCertConf : LentEnrolment → (nonce outgoing : List ℕ) → Type 0
+IsCertConf e n o = (outgoingKind o ≡ 24) × (outgoingId o ≡ enrolmentId (e .bytes)) × (outgoingRecipNonce o ≡ n)
+
+abbrev pub SentCertConf : LentWorld → LentEnrolment → (nonce : List ℕ) → Type 0
+SentCertConf w e n = Sent (OneBoard (e .board)) (IsCertConf e n) (w .past)
+
+-- "the one whose response nonce the board's certConf carried as recipNonce" is closed, or in this state with the enrolment's hash
+abbrev pub FoundBytes : LentWorld → LentEnrolment → (state : ℕ) → Type 0
+FoundBytes w e k =
+    (n : List ℕ)
+    × SentCertConf w e n
+    × ((u : List ℕ) → SentCertConf w e u → u ≡ n)
+    × (ClosedBytes (enrolmentId (e .bytes)) n (w .past) ⊎ InSlot (w .table) (e .bytes) n k)
+
+-- at no point a slot with the id was Confirmed
+abbrev pub NeverConfirmed : List ℕ → List LentEvent → Type 0
+NeverConfirmed i [] = Unit {0}
+NeverConfirmed i (e ∷ past) =
+    (isMade (e .code) ≡ true → (p : ℕ) → p < capacity → transactionId p (e .table) ≡ i → transactionState p (e .table) ≡ 3 → ⊥)
+    × NeverConfirmed i past
+
+-- the enrolment of the transaction in this slot: of its board, the only one with its id
+pub record EnrolmentOf (w : LentWorld) (p : ℕ) : Type 0 where
+  pub place : ℕ
+  pub held : LentEnrolment
+  pub holds : getElem? (w .enrolments) place ≡ some held
+  pub board : held .board .0 ≡ transactionBoard p (w .table)
+  pub id : enrolmentId (held .bytes) ≡ transactionId p (w .table)
+  pub only : (k : ℕ) (e : LentEnrolment) → getElem? (w .enrolments) k ≡ some e → enrolmentId (e .bytes) ≡ transactionId p (w .table) → k ≡ place
+  pub hash : enrolmentHash (held .bytes) ≡ transactionHash p (w .table)
+  pub says : (enrolmentState (held .bytes) ≡ 3) ⊎ (enrolmentState (held .bytes) ≡ 1) ⊎ (enrolmentState (held .bytes) ≡ 6)
+
+-- "an end entity that is Sure has its transaction Confirmed with the same hash, one that is Declined has it Declined, until it is closed; where
+-- a transaction is Confirmed, its end entity holds the same hash and is Sure, Confirming or Unsettled; one that Failed never had it so"
+pub record HeaderAgreement (w : LentWorld) : Type 0 where
+  pub sure : (k : ℕ) (e : LentEnrolment) → getElem? (w .enrolments) k ≡ some e → enrolmentState (e .bytes) ≡ 3 → FoundBytes w e 3
+  pub declined : (k : ℕ) (e : LentEnrolment) → getElem? (w .enrolments) k ≡ some e → enrolmentState (e .bytes) ≡ 4 → FoundBytes w e 4
+  pub confirmed : (p : ℕ) → p < capacity → transactionState p (w .table) ≡ 3 → EnrolmentOf w p
+  pub failed : (k : ℕ) (e : LentEnrolment) → getElem? (w .enrolments) k ≡ some e → enrolmentState (e .bytes) ≡ 5 → NeverConfirmed (enrolmentId (e .bytes)) (w .past)
+  -- "Asked or Failed with neither of these two at the desk"
+  pub neither :
+      (k : ℕ) (e : LentEnrolment) → getElem? (w .enrolments) k ≡ some e
+      → (enrolmentState (e .bytes) ≡ 0) ⊎ (enrolmentState (e .bytes) ≡ 5)
+      → (p : ℕ) → p < capacity → transactionId p (w .table) ≡ enrolmentId (e .bytes)
+      → (transactionState p (w .table) ≢ 3) × (transactionState p (w .table) ≢ 4)
+
+-- the table's bytes were handed to duskstall_registrar_empty; then any list of calls
+abbrev pub HeaderDemand3 : Type 0
+HeaderDemand3 =
+    (s : List ℕ) → length s ≡ tableBytes → (calls : List LentCall)
+    → FairBytes (lentAfter (lentBeginning s) calls .past)
+    → HeaderAgreement (lentAfter (lentBeginning s) calls)
+
+-- what is supposed of the bytes is what demand 3 supposes of the calls that they stand for, no more and no less
+abbrev pub SamePremise : Type 0
+SamePremise = (s : List ℕ) (calls : List LentCall) → FairBytes (lentAfter (lentBeginning s) calls .past) ↔ Fair (worldOf (lentAfter (lentBeginning s) calls) .past)
