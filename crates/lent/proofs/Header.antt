@@ -300,13 +300,13 @@ closed-back i n (e ∷ es) a h =
         inl (c .0, c .1, sent-map TheRegistrar (λ u. outgoingOf u ≡ x .1) _ (λ u y. ap (λ (o : Outgoing). o .«sender_nonce» .bytes) y ∙ ap (λ (k : Nonce). k .bytes) (x .3)) es (issued-sent TheRegistrar (x .1) es (x .2)))
     split m f (inr x) = inr (f x)
 
-confirmed-free : at-registrar.Confirmed ≡ at-registrar.Free → ⊥
+pub confirmed-free : at-registrar.Confirmed ≡ at-registrar.Free → ⊥
 confirmed-free e = let z : _≡_ {A = ℕ} 3 0 = ap table.stateNumber e in omega arith
 
 declined-free : at-registrar.Declined ≡ at-registrar.Free → ⊥
 declined-free e = let z : _≡_ {A = ℕ} 4 0 = ap table.stateNumber e in omega arith
 
-is-confirmed : (s : List ℕ) (p : ℕ) → transactionState p s ≡ 3 → row s p .state ≡ at-registrar.Confirmed
+pub is-confirmed : (s : List ℕ) (p : ℕ) → transactionState p s ≡ 3 → row s p .state ≡ at-registrar.Confirmed
 unfolding table.stateOf
 is-confirmed s p e = state-at s p ∙ ap table.stateOf e
 

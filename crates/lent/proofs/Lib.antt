@@ -1,12 +1,16 @@
+pub mod ConfirmationBytes
 pub mod EndEntitySizes
 pub mod Events
+pub mod ForgottenTable
 pub mod Header
 pub mod Kept
 pub mod Made
+pub mod OtherBytes
 pub mod Places
 pub mod ReadBack
 pub mod RegistrarSizes
 pub mod Sizes
+pub mod SlotBytes
 pub mod Stand
 pub mod Start
 pub mod Steps

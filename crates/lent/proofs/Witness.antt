@@ -71,7 +71,7 @@ stays l (LentClose i b) = omega arith
 stays l (LentTimeOut k b) = kept l _ k (getElem? (l .enrolments) k) _
 
 -- only a close closes
-still-open : (i n : List ℕ) (l : LentWorld) (c : LentCall) → (IsClose i c → ⊥) → (ClosedBytes i n (l .past) → ⊥) → ClosedBytes i n (lentStep l c .past) → ⊥
+pub still-open : (i n : List ℕ) (l : LentWorld) (c : LentCall) → (IsClose i c → ⊥) → (ClosedBytes i n (l .past) → ⊥) → ClosedBytes i n (lentStep l c .past) → ⊥
 still-open i n l c d f h = let a : Adds l c (crossing l c) (lentStep l c .past) = call-adds l c in go a (subst (ClosedBytes i n) (a .adds) h)
   where
     go : (a : Adds l c (crossing l c) (lentStep l c .past)) → ClosedBytes i n (a .event ∷ l .past) → ⊥

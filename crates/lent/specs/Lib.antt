@@ -1,7 +1,11 @@
+pub mod ConfirmationBytes
+pub mod ForgottenTable
 pub mod Header
 pub mod Kept
 pub mod Lent
 pub mod Made
+pub mod OtherBytes
 pub mod Places
 pub mod Reads
+pub mod SlotBytes
 pub mod Witness

@@ -1,0 +1,98 @@
+-- Demand 2 over lent bytes.
+use Prim.Native.Nat.{ℕ}
+use mathlib.Core.List.{List}
+use mathlib.Core.Bool.{Bool, true, false}
+use mathlib.Core.Path.{_≡_, refl, sym, _∙_, ap}
+use mathlib.Core.Logic.{_⊎_, inl, inr}
+use native.Mathlib.Omega.{arith}
+use lib.ListN.{length}
+use lib.Dec.{leb}
+use Rattle.message.specs.Read.{readingOf}
+use Rattle.grammar.specs.declared.Message.{Message}
+use Rattle.message.specs.declared.Reading.the-variants as read
+use Rattle.protocol.specs.declared.RegistrarInput.{RegistrarInput}
+use Rattle.protocol.specs.declared.TransactionState.{TransactionState}
+use Rattle.protocol.specs.declared.TransactionState.the-variants.{Confirmed, Declined}
+use Rattle.protocol.specs.declared.TransactionTable.{TransactionTable}
+use Rattle.protocol.specs.declared.Outcome.{Outcome}
+use Rattle.protocol.specs.declared.Outcome.the-variants as outcome
+use Rattle.protocol.specs.declared.RegistrarAnswer.{RegistrarAnswer}
+use Rattle.protocol.specs.Registrar.{registrarMessage}
+use Rattle.protocol.specs.Confirmation.{LeadsTo, ConfirmationRule}
+use Rattle.protocol.proofs.Tests.{true-false}
+use Rattle.protocol.proofs.ConfirmationRule.{confirmation-rule}
+use Rattle.packed.specs.Arrays.{unpack16}
+use Rattle.packed.specs.Answer.{outcomeNumber, registrarAnswerBytes}
+use Rattle.packed.specs.Table.{unpackTable}
+use Rattle.duskstall.specs.Boundary.{Crossing, boundaryFault, unlessFaulty, registrarWritten, registrarAnswered, registrarCrossing}
+use Rattle.duskstall.specs.Calls.{registrarInput}
+use Rattle.lent.specs.Lent.{LentCall, LentToRegistrar, LentWorld, crossing, isMade, lentAfter, lentBeginning}
+use Rattle.lent.specs.Kept.{LentPromise}
+use Rattle.lent.specs.Reads.{registrarRead, tableIn}
+use Rattle.lent.specs.ConfirmationBytes.{BytesConfirmed, ConfirmsBytes, LentConfirmation, LentConfirmationAfter}
+use Rattle.lent.proofs.Kept.{lent-demand1}
+use Rattle.lent.proofs.ReadBack.{lent-reads, lent-sound}
+
+-- ## What is returned
+
+code-of : (o p r : Bool) (s b : List ℕ) (x : Crossing) → isMade (unlessFaulty (boundaryFault o p r) s b x .code) ≡ true → unlessFaulty (boundaryFault o p r) s b x .code ≡ x .code
+code-of true true true s b x m = refl
+code-of true true false s b x m = true-false (sym m)
+code-of true false r s b x m = true-false (sym m)
+code-of false p r s b x m = true-false (sym m)
+
+registrar-code : (p : Bool) (f : TransactionTable → RegistrarAnswer) (s b : List ℕ) → isMade (registrarCrossing p f s b .code) ≡ true → registrarCrossing p f s b .code ≡ outcomeNumber (f (unpackTable s .table) .outcome)
+unfolding registrarAnswered
+registrar-code p f s b m = code-of (unpackTable s .ok) p (leb registrarAnswerBytes (length b)) s b (registrarWritten (f (unpackTable s .table)) s b) m
+
+is-done : (o : Outcome) → outcomeNumber o ≡ 0 → o ≡ outcome.Done
+is-done outcome.Done e = refl
+is-done outcome.Again e = absurd (omega arith)
+is-done (outcome.Refused n f) e = absurd (omega arith)
+
+is-again : (o : Outcome) → outcomeNumber o ≡ 1 → o ≡ outcome.Again
+is-again outcome.Done e = absurd (omega arith)
+is-again outcome.Again e = refl
+is-again (outcome.Refused n f) e = absurd (omega arith)
+
+-- a confirmation that matches leads to a state
+status-leads : (m : Message) → (m .contents .entry .status ≡ 0) ⊎ (m .contents .entry .status ≡ 2) → m .contents .entry .«has_status» ≡ true → (v : TransactionState) × LeadsTo m v
+status-leads m (inl e) h = (Confirmed, inl (refl, inr e))
+status-leads m (inr e) h = (Declined, inr (refl, h, e))
+
+leads : (m : Message) (b : Bool) → m .contents .entry .«has_status» ≡ b → (b ≡ true → (m .contents .entry .status ≡ 0) ⊎ (m .contents .entry .status ≡ 2)) → (v : TransactionState) × LeadsTo m v
+leads m true h s = status-leads m (s refl) h
+leads m false h s = (Confirmed, inl (refl, inl h))
+
+-- ## The rule
+
+module _ (t : TransactionTable) (d : RegistrarInput) (bytes : List ℕ) (m : Message) (reads : readingOf bytes ≡ read.Clean m) (kind : m .contents .kind ≡ 24) where
+  module _ (s : List ℕ) (x : Crossing) (back : registrarRead x ≡ registrarMessage t d bytes) (code : x .code ≡ outcomeNumber (registrarMessage t d bytes .outcome)) (stays : (x .code ≡ 0 → ⊥) → x .state ≡ s) where
+    abbrev rule : ConfirmationRule t d bytes m
+    rule = confirmation-rule t d bytes m
+
+    confirmed : BytesConfirmed t d bytes m s x
+    confirmed =
+        record {
+          moves = λ e. rule .moves (record { reads = reads; kind = kind; ends = is-done _ (sym code ∙ e) });
+          done = λ r c.
+              let v : (v : TransactionState) × LeadsTo m v = leads m (m .contents .entry .«has_status») refl (c .match .status) in
+              code ∙ ap (λ (a : RegistrarAnswer). outcomeNumber (a .outcome)) (rule .moved r c (v .0) (v .1));
+          moved = λ r c v l. back ∙ rule .moved r c v l;
+          repeats = λ e. rule .repeats (record { reads = reads; kind = kind; ends = is-again _ (sym code ∙ e) });
+          again = λ r c. code ∙ ap (λ (a : RegistrarAnswer). outcomeNumber (a .outcome)) (rule .repeated r c);
+          repeated = λ r c. back ∙ rule .repeated r c;
+          else = stays;
+        }
+
+confirms : (w : LentWorld) → ((c : LentCall) → LentPromise w c) → ConfirmsBytes w
+confirms w promise bytes g b n a made m reads kind =
+    let c : LentCall = LentToRegistrar bytes g b n a in
+    confirmed (tableIn w) (registrarInput g b n) bytes m reads kind (w .table) (crossing w c) (lent-reads w c made)
+    (registrar-code (unpack16 n .ok) (λ t. registrarMessage t (registrarInput g b n) bytes) (w .table) a made) (promise c .unchanged)
+
+pub lent-confirmation : LentConfirmation
+lent-confirmation w all = confirms w (lent-demand1 w all)
+
+pub lent-confirmation-after : LentConfirmationAfter
+lent-confirmation-after s e calls = confirms (lentAfter (lentBeginning s) calls) (lent-sound s e calls .promise)
