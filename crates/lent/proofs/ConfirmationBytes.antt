@@ -19,31 +19,26 @@ use Rattle.protocol.specs.declared.Outcome.the-variants as outcome
 use Rattle.protocol.specs.declared.RegistrarAnswer.{RegistrarAnswer}
 use Rattle.protocol.specs.Registrar.{registrarMessage}
 use Rattle.protocol.specs.Confirmation.{LeadsTo, ConfirmationRule}
-use Rattle.protocol.proofs.Tests.{true-false}
 use Rattle.protocol.proofs.ConfirmationRule.{confirmation-rule}
 use Rattle.packed.specs.Arrays.{unpack16}
 use Rattle.packed.specs.Answer.{outcomeNumber, registrarAnswerBytes}
 use Rattle.packed.specs.Table.{unpackTable}
-use Rattle.duskstall.specs.Boundary.{Crossing, boundaryFault, unlessFaulty, registrarWritten, registrarAnswered, registrarCrossing}
+use Rattle.duskstall.specs.Boundary.{Crossing, registrarWritten, registrarAnswered, registrarCrossing}
 use Rattle.duskstall.specs.Calls.{registrarInput}
-use Rattle.lent.specs.Lent.{LentCall, LentToRegistrar, LentWorld, crossing, isMade, lentAfter, lentBeginning}
+use Rattle.lent.specs.Calls.{RegistrarMessage}
+use Rattle.lent.specs.Lent.{LentCall, AtRegistrar, LentWorld, crossing, isMade, lentAfter, lentBeginning}
 use Rattle.lent.specs.Kept.{LentPromise}
 use Rattle.lent.specs.Reads.{registrarRead, tableIn}
 use Rattle.lent.specs.ConfirmationBytes.{BytesConfirmed, ConfirmsBytes, LentConfirmation, LentConfirmationAfter}
+use Rattle.lent.proofs.Stand.{made-of}
 use Rattle.lent.proofs.Kept.{lent-demand1}
 use Rattle.lent.proofs.ReadBack.{lent-reads, lent-sound}
 
 -- ## What is returned
 
-code-of : (o p r : Bool) (s b : List ℕ) (x : Crossing) → isMade (unlessFaulty (boundaryFault o p r) s b x .code) ≡ true → unlessFaulty (boundaryFault o p r) s b x .code ≡ x .code
-code-of true true true s b x m = refl
-code-of true true false s b x m = true-false (sym m)
-code-of true false r s b x m = true-false (sym m)
-code-of false p r s b x m = true-false (sym m)
-
 registrar-code : (p : Bool) (f : TransactionTable → RegistrarAnswer) (s b : List ℕ) → isMade (registrarCrossing p f s b .code) ≡ true → registrarCrossing p f s b .code ≡ outcomeNumber (f (unpackTable s .table) .outcome)
 unfolding registrarAnswered
-registrar-code p f s b m = code-of (unpackTable s .ok) p (leb registrarAnswerBytes (length b)) s b (registrarWritten (f (unpackTable s .table)) s b) m
+registrar-code p f s b = made-of (λ x. x .code ≡ outcomeNumber (f (unpackTable s .table) .outcome)) (unpackTable s .ok) p (leb registrarAnswerBytes (length b)) s b (registrarWritten (f (unpackTable s .table)) s b) (λ _ _ _. refl)
 
 is-done : (o : Outcome) → outcomeNumber o ≡ 0 → o ≡ outcome.Done
 is-done outcome.Done e = refl
@@ -87,7 +82,7 @@ module _ (t : TransactionTable) (d : RegistrarInput) (bytes : List ℕ) (m : Mes
 
 confirms : (w : LentWorld) → ((c : LentCall) → LentPromise w c) → ConfirmsBytes w
 confirms w promise bytes g b n a made m reads kind =
-    let c : LentCall = LentToRegistrar bytes g b n a in
+    let c : LentCall = AtRegistrar (RegistrarMessage bytes g b n) a in
     confirmed (tableIn w) (registrarInput g b n) bytes m reads kind (w .table) (crossing w c) (lent-reads w c made)
     (registrar-code (unpack16 n .ok) (λ t. registrarMessage t (registrarInput g b n) bytes) (w .table) a made) (promise c .unchanged)
 

@@ -11,7 +11,6 @@ use Rattle.protocol.specs.Bytes.{zeros}
 use Rattle.protocol.specs.declared.TransactionId.{TransactionId}
 use Rattle.protocol.specs.declared.Transaction.{Transaction}
 use Rattle.protocol.specs.declared.TransactionTable.{TransactionTable}
-use Rattle.protocol.specs.declared.TransactionState.the-variants.{Free, Confirmed}
 use Rattle.protocol.specs.Table.{capacity, emptyTable, freeTransaction, lookup}
 use Rattle.protocol.specs.Registrar.{refusedQuietly, registrarLapse}
 use Rattle.protocol.proofs.Tests.{true-false, none-some, some-some}
@@ -24,14 +23,13 @@ use Rattle.packed.proofs.AnswerInverse.{registrar-sends-back}
 use Rattle.packed.proofs.TableInverse.{unpack-packed}
 use Rattle.duskstall.specs.Boundary.{Crossing, registrarWritten, registrarAnswered}
 use Rattle.duskstall.specs.Calls.{idOf, lapseCrossing}
-use Rattle.lent.specs.Lent.{LentCall, LentEnrolment, LentEvent, LentWorld, crossing, registrarLent, lentStep, lentAfter, lentBeginning}
+use Rattle.lent.specs.Lent.{LentCall, LentWorld, registrarLent, lentStep, lentAfter, lentBeginning}
 use Rattle.lent.specs.Places.{transactionState}
-use Rattle.lent.specs.Header.{IsClose, ClosedBytes, FairBytes, InSlot, HeaderAgreement}
+use Rattle.lent.specs.Header.{ClosedBytes, FairBytes, InSlot, HeaderAgreement}
 use Rattle.lent.specs.Witness.{lentEnrols, LentEnds}
 use Rattle.lent.specs.OtherBytes.{HostCall, lentBy, hostStep, hostAfter, asLeft}
 use Rattle.lent.specs.ForgottenTable.{forgetful, NoneCloses, ForgottenTable, PremiseNeeded}
 use Rattle.protocol.specs.Witness.{acceptBytes}
-use Rattle.lent.proofs.Events.{Adds, call-adds}
 use Rattle.lent.proofs.Stand.{table-in}
 use Rattle.lent.proofs.Sizes.{empty-sized, silent-sized}
 use Rattle.lent.proofs.Places.{row, row-held}
@@ -117,7 +115,7 @@ module _ (w : LentWorld) where
   )
 
   either : (i n s : List ℕ) → (ClosedBytes i n (w .past) → ⊥) → ClosedBytes i n (after ends .past) ⊎ InSlot (after ends .table) s n 3 → ⊥
-  either i n s d (inl (inl c)) = c .1
+  either i n s d (inl (inl c)) = none-some (c .1)
   either i n s d (inl (inr c)) = d c
   either i n s d (inr h) = not-in-slot s n (subst (λ (t : List ℕ). InSlot t s n 3) state-is h)
 
@@ -139,7 +137,7 @@ forgotten-table s calls n f k e h b =
 -- ## One enrolment through, as in the witness of demand 3
 
 none-closes : NoneCloses (lentEnrols 1 acceptBytes)
-none-closes = ((λ i x. x), ((λ i x. x), ((λ i x. x), ((λ i x. x), ((λ i x. x), ((λ i x. x), tt))))))
+none-closes = ((λ i x. x), ((λ i. none-some), ((λ i. none-some), ((λ i x. x), ((λ i. none-some), ((λ i x. x), tt))))))
 
 pub premise-needed : PremiseNeeded
 premise-needed =

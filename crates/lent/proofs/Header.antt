@@ -2,7 +2,7 @@
 use Prim.Native.Nat.{ℕ, zero, suc, _-_, _<_}
 use mathlib.Core.List.{List, [], _∷_}
 use mathlib.Core.Bool.{Bool, true, false, cond}
-use mathlib.Core.Option.{some}
+use mathlib.Core.Option.{Option, none, some}
 use mathlib.Core.Path.{_≡_, refl, sym, _∙_, ap, subst}
 use mathlib.Core.Logic.{_⊎_, inl, inr, _≢_}
 use native.Mathlib.Omega.{arith}
@@ -21,10 +21,9 @@ use Rattle.protocol.specs.declared.Outgoing.{Outgoing}
 use Rattle.protocol.specs.declared.Transaction.{Transaction}
 use Rattle.protocol.specs.declared.TransactionState.{TransactionState}
 use Rattle.protocol.specs.declared.TransactionState.the-variants as at-registrar
-use Rattle.protocol.specs.declared.EnrolmentState.{EnrolmentState}
 use Rattle.protocol.specs.declared.EnrolmentState.the-variants as at-board
 use Rattle.protocol.specs.Table.{capacity}
-use Rattle.protocol.specs.Run.{End, TheRegistrar, OneBoard, Event, World, BoardEnrolment, sentBy, unlessRefused}
+use Rattle.protocol.specs.Run.{End, TheRegistrar, OneBoard, Event, BoardEnrolment, sentBy, unlessRefused}
 use Rattle.protocol.specs.Agreement.{Some, Gave, Issued, Carries, IssuedReading, IssuedMessage, ByVerdict, ByGood, SenderIssued, FairEvent, Fair, RegistrarHolds, SaysConfirmed, ClosedSince, Confirmation, FoundUntilClosed, MayBeSure, Neither, AgreesOrBetween, BoardOf, Agreement}
 use Rattle.protocol.proofs.Tests.{true-false, none-some, some-some, cases}
 use Rattle.packed.specs.Arrays.{unpack16}
@@ -36,9 +35,10 @@ use Rattle.packed.specs.Table.{unpackTable}
 use Rattle.packed.specs.Enrolment.{unpackEnrolment}
 use Rattle.duskstall.specs.Boundary.{yes, verdictOf}
 use Rattle.duskstall.specs.Calls.{idOf}
-use Rattle.lent.specs.Lent.{LentCall, LentStart, LentToRegistrar, LentToEndEntity, LentIssue, LentRefuse, LentLapse, LentClose, LentTimeOut, callOf, LentEnrolment, LentEvent, LentWorld, isMade, registrarSent, endEntitySent, sentOf, drawnOf, closedOf, eventOf, eventsOf, EnrolmentsOk, TablesOk, worldOf, lentAfter, lentBeginning}
-use Rattle.lent.specs.Places.{transactionId, transactionSent, transactionState, enrolmentId, enrolmentState, outgoingKind, outgoingId, outgoingSenderNonce, outgoingRecipNonce, outgoingPlace, outgoingIn, sendsIn}
-use Rattle.lent.specs.Header.{SomeMade, Sent, IsStart, IsClose, Taken, CarriesBytes, IssuedBytes, GoodIssued, FairBytesEvent, FairBytes, InSlot, ClosedBytes, IsCertConf, SentCertConf, FoundBytes, NeverConfirmed, EnrolmentOf, HeaderAgreement, HeaderDemand3, SamePremise}
+use Rattle.lent.specs.Calls.{RegistrarCall, RegistrarMessage, RegistrarIssue, RegistrarRefuse, RegistrarLapse, RegistrarClose, registrarStep, closing, EndEntityCall, EndEntityMessage, EndEntityTimeOut, endEntityStep}
+use Rattle.lent.specs.Lent.{LentCall, AtRegistrar, AtEndEntity, EndEntityStart, callOf, LentEnrolment, LentEvent, LentWorld, isMade, registrarSent, endEntitySent, sentOf, drawnOf, closedBy, closedOf, eventOf, eventsOf, EnrolmentsOk, TablesOk, worldOf, lentAfter, lentBeginning}
+use Rattle.lent.specs.Places.{transactionId, transactionState, enrolmentId, enrolmentState, outgoingSenderNonce, outgoingPlace, outgoingIn, sendsIn}
+use Rattle.lent.specs.Header.{SomeMade, Sent, IsStart, IsClose, Taken, CarriesBytes, IssuedBytes, GoodAtRegistrar, GoodAtEndEntity, GoodIssued, FairBytesEvent, FairBytes, InSlot, ClosedBytes, IsCertConf, SentCertConf, FoundBytes, NeverConfirmed, EnrolmentOf, HeaderAgreement, HeaderDemand3, SamePremise}
 use Rattle.lent.proofs.Events.{IdSized, PlainEvent, AllPlain, all-plain}
 use Rattle.lent.proofs.Places.{row, state-at, id-at, sent-at, hash-at, board-at, number-of-state, not-lapsed, held-row, in-use, board-id, board-hash, says, said, shown, held-bytes, bytes-held, id-is}
 use Rattle.lent.proofs.Theorem.{lent-runs, lent-demand3}
@@ -47,14 +47,9 @@ use Rattle.lent.proofs.Theorem.{lent-runs, lent-demand3}
 
 sent-is : (c : LentCall) (x : List ℕ) → sentOf c x ≡ sentBy (eqb (getD x (outgoingPlace c - 1) 0) 1) (outgoingOf (drop (outgoingPlace c) x))
 unfolding registrarSent endEntitySent
-sent-is (LentStart b s k i n a) x = refl
-sent-is (LentToRegistrar bytes g b n a) x = refl
-sent-is (LentToEndEntity k bytes g c h n a) x = refl
-sent-is (LentIssue i n h a) x = refl
-sent-is (LentRefuse i n a) x = refl
-sent-is (LentLapse i a) x = refl
-sent-is (LentClose i a) x = refl
-sent-is (LentTimeOut k a) x = refl
+sent-is (AtRegistrar c a) x = refl
+sent-is (AtEndEntity k c a) x = refl
+sent-is (EndEntityStart b s k i n a) x = refl
 
 sends-some : (b : Bool) (o u : Outgoing) → sentBy b o ≡ some u → (b ≡ true) × (o ≡ u)
 sends-some true o u e = (refl, some-some e)
@@ -125,24 +120,18 @@ named x j k c z i e =
     (subst (λ (n : ℕ). ltb n 2 ≡ true) c (q .0), sym (id-bytes j z) ∙ ap (λ (t : TransactionId). t .bytes) (q .1))
 
 drawn-at : (c : LentCall) (x : List ℕ) (k : ℕ) → getD x 0 0 ≡ k → IdSized c → (i : TransactionId) → drawnOf c x ≡ some i → (ltb k 2 ≡ true) × IsStart (i .bytes) c
-drawn-at (LentStart b s q j n a) x k c z i e = named x j k c z i e
-drawn-at (LentToRegistrar bytes g b n a) x k c z i e = none-some e
-drawn-at (LentToEndEntity q bytes g d h n a) x k c z i e = none-some e
-drawn-at (LentIssue j n h a) x k c z i e = none-some e
-drawn-at (LentRefuse j n a) x k c z i e = none-some e
-drawn-at (LentLapse j a) x k c z i e = none-some e
-drawn-at (LentClose j a) x k c z i e = none-some e
-drawn-at (LentTimeOut q a) x k c z i e = none-some e
+drawn-at (AtRegistrar d a) x k c z i e = none-some e
+drawn-at (AtEndEntity q d a) x k c z i e = none-some e
+drawn-at (EndEntityStart b s q j n a) x k c z i e = named x j k c z i e
+
+closed-id : (o : Option (List ℕ)) (x : List ℕ) (k : ℕ) → getD x 0 0 ≡ k → ((j : List ℕ) → o ≡ some j → length j ≡ 16) → (i : TransactionId) → closedBy o (outcomeOf x) ≡ some i → (ltb k 2 ≡ true) × (o ≡ some (i .bytes))
+closed-id none x k c z i e = none-some e
+closed-id (some j) x k c z i e = let q : (ltb k 2 ≡ true) × (j ≡ i .bytes) = named x j k c (z j refl) i e in (q .0, ap some (q .1))
 
 closed-at : (c : LentCall) (x : List ℕ) (k : ℕ) → getD x 0 0 ≡ k → IdSized c → (i : TransactionId) → closedOf c x ≡ some i → (ltb k 2 ≡ true) × IsClose (i .bytes) c
-closed-at (LentStart b s q j n a) x k c z i e = none-some e
-closed-at (LentToRegistrar bytes g b n a) x k c z i e = none-some e
-closed-at (LentToEndEntity q bytes g d h n a) x k c z i e = none-some e
-closed-at (LentIssue j n h a) x k c z i e = none-some e
-closed-at (LentRefuse j n a) x k c z i e = none-some e
-closed-at (LentLapse j a) x k c z i e = none-some e
-closed-at (LentClose j a) x k c z i e = named x j k c z i e
-closed-at (LentTimeOut q a) x k c z i e = none-some e
+closed-at (AtRegistrar d a) x k c z i e = closed-id (closing d) x k c z i e
+closed-at (AtEndEntity q d a) x k c z i e = none-some e
+closed-at (EndEntityStart b s q j n a) x k c z i e = none-some e
 
 drawn-some : (i : TransactionId) (es : List LentEvent) → AllPlain es → Some (λ f. f .drawn ≡ some i) (eventsOf es) → SomeMade (λ f. Taken f × IsStart (i .bytes) (f .call)) es
 unfolding eventsOf
@@ -174,16 +163,22 @@ by-good : (b : Bool) (bytes : List ℕ) (past : List Event) → (b ≡ true → 
 by-good true bytes past h = h refl
 by-good false bytes past h = tt
 
-good-issued : (c : LentCall) (es : List LentEvent) → GoodIssued c es → SenderIssued (callOf c) (eventsOf es)
-good-issued (LentStart b s k i n a) es h = tt
-good-issued (LentToRegistrar bytes g b n a) es h =
+good-at-registrar : (c : RegistrarCall) (es : List LentEvent) → GoodAtRegistrar c es → SenderIssued (registrarStep c) (eventsOf es)
+good-at-registrar (RegistrarMessage bytes g b n) es h =
     cases (λ (v : Verdict). ByVerdict v bytes (eventsOf es)) (eqb g 1) _ _ (λ e. issued-bytes (OneBoard (record { 0 = b })) bytes (readingOf bytes) es (h (eqb-true _ _ e))) (λ _. tt)
-good-issued (LentToEndEntity k bytes g c h n a) es f = by-good (eqb g 1) bytes (eventsOf es) (λ e. issued-bytes TheRegistrar bytes (readingOf bytes) es (f (eqb-true _ _ e)))
-good-issued (LentIssue i n h a) es f = tt
-good-issued (LentRefuse i n a) es h = tt
-good-issued (LentLapse i a) es h = tt
-good-issued (LentClose i a) es h = tt
-good-issued (LentTimeOut k a) es h = tt
+good-at-registrar (RegistrarIssue i n h) es f = tt
+good-at-registrar (RegistrarRefuse i n) es h = tt
+good-at-registrar (RegistrarLapse i) es h = tt
+good-at-registrar (RegistrarClose i) es h = tt
+
+good-at-end-entity : (k : ℕ) (c : EndEntityCall) (es : List LentEvent) → GoodAtEndEntity c es → SenderIssued (endEntityStep k c) (eventsOf es)
+good-at-end-entity k (EndEntityMessage bytes g a h n) es f = by-good (eqb g 1) bytes (eventsOf es) (λ e. issued-bytes TheRegistrar bytes (readingOf bytes) es (f (eqb-true _ _ e)))
+good-at-end-entity k EndEntityTimeOut es h = tt
+
+good-issued : (c : LentCall) (es : List LentEvent) → GoodIssued c es → SenderIssued (callOf c) (eventsOf es)
+good-issued (AtRegistrar c a) es h = good-at-registrar c es h
+good-issued (AtEndEntity k c a) es h = good-at-end-entity k c es h
+good-issued (EndEntityStart b s k i n a) es h = tt
 
 -- a nonce, as bytes
 nonce-of : (u v : List ℕ) (o w : Outgoing) → outgoingOf u ≡ o → outgoingOf v ≡ w → o .«sender_nonce» ≡ w .«sender_nonce» → outgoingSenderNonce u ≡ outgoingSenderNonce v
@@ -225,15 +220,21 @@ issued-back p bytes (read.Refused f) es h = tt
 issued-back p bytes (read.Clean m) es h =
     sent-map p (λ u. outgoingOf u ≡ h .0) (CarriesBytes bytes m) (λ u y. carries-back bytes m u (subst (Carries bytes m) (sym y) (h .2))) es (issued-sent p (h .0) es (h .1))
 
+registrar-good-back : (c : RegistrarCall) (es : List LentEvent) → SenderIssued (registrarStep c) (eventsOf es) → GoodAtRegistrar c es
+registrar-good-back (RegistrarMessage bytes g b n) es h = λ e. issued-back (OneBoard (record { 0 = b })) bytes (readingOf bytes) es (subst (λ (k : ℕ). ByVerdict (verdictOf k b) bytes (eventsOf es)) e h)
+registrar-good-back (RegistrarIssue i n h) es f = tt
+registrar-good-back (RegistrarRefuse i n) es h = tt
+registrar-good-back (RegistrarLapse i) es h = tt
+registrar-good-back (RegistrarClose i) es h = tt
+
+end-entity-good-back : (k : ℕ) (c : EndEntityCall) (es : List LentEvent) → SenderIssued (endEntityStep k c) (eventsOf es) → GoodAtEndEntity c es
+end-entity-good-back k (EndEntityMessage bytes g a h n) es f = λ e. issued-back TheRegistrar bytes (readingOf bytes) es (subst (λ (m : ℕ). ByGood (yes m) bytes (eventsOf es)) e f)
+end-entity-good-back k EndEntityTimeOut es h = tt
+
 good-back : (c : LentCall) (es : List LentEvent) → SenderIssued (callOf c) (eventsOf es) → GoodIssued c es
-good-back (LentStart b s k i n a) es h = tt
-good-back (LentToRegistrar bytes g b n a) es h = λ e. issued-back (OneBoard (record { 0 = b })) bytes (readingOf bytes) es (subst (λ (k : ℕ). ByVerdict (verdictOf k b) bytes (eventsOf es)) e h)
-good-back (LentToEndEntity k bytes g c h n a) es f = λ e. issued-back TheRegistrar bytes (readingOf bytes) es (subst (λ (k : ℕ). ByGood (yes k) bytes (eventsOf es)) e f)
-good-back (LentIssue i n h a) es f = tt
-good-back (LentRefuse i n a) es h = tt
-good-back (LentLapse i a) es h = tt
-good-back (LentClose i a) es h = tt
-good-back (LentTimeOut k a) es h = tt
+good-back (AtRegistrar c a) es h = registrar-good-back c es h
+good-back (AtEndEntity k c a) es h = end-entity-good-back k c es h
+good-back (EndEntityStart b s k i n a) es h = tt
 
 taken-some : (x : List ℕ) (j : TransactionId) (k : ℕ) → getD x 0 0 ≡ k → ltb k 2 ≡ true → unlessRefused (outcomeOf x) j ≡ some j
 unfolding outcomeOf
@@ -242,14 +243,9 @@ taken-some x j (suc zero) e h = rw e
 taken-some x j (suc (suc k)) e h = let q : suc (suc k) < 2 = ltb-true _ _ h in absurd (omega arith)
 
 drawn-back : (c : LentCall) (x : List ℕ) (k : ℕ) → getD x 0 0 ≡ k → IdSized c → (i : List ℕ) → (ltb k 2 ≡ true) × IsStart i c → drawnOf c x ≡ some (record { bytes = i })
-drawn-back (LentStart b s q j n a) x k c z i e = taken-some x (idOf j) k c (e .0) ∙ ap some (id-is (idOf j) (record { bytes = i }) (id-bytes j z ∙ e .1))
-drawn-back (LentToRegistrar bytes g b n a) x k c z i e = absurd (e .1)
-drawn-back (LentToEndEntity q bytes g d h n a) x k c z i e = absurd (e .1)
-drawn-back (LentIssue j n h a) x k c z i e = absurd (e .1)
-drawn-back (LentRefuse j n a) x k c z i e = absurd (e .1)
-drawn-back (LentLapse j a) x k c z i e = absurd (e .1)
-drawn-back (LentClose j a) x k c z i e = absurd (e .1)
-drawn-back (LentTimeOut q a) x k c z i e = absurd (e .1)
+drawn-back (AtRegistrar d a) x k c z i e = absurd (e .1)
+drawn-back (AtEndEntity q d a) x k c z i e = absurd (e .1)
+drawn-back (EndEntityStart b s q j n a) x k c z i e = taken-some x (idOf j) k c (e .0) ∙ ap some (id-is (idOf j) (record { bytes = i }) (id-bytes j z ∙ e .1))
 
 drawn-made : (i : List ℕ) (es : List LentEvent) → AllPlain es → SomeMade (λ f. Taken f × IsStart i (f .call)) es → Some (λ f. f .drawn ≡ some (record { bytes = i })) (eventsOf es)
 drawn-made i [] a h = absurd h

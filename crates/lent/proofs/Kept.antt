@@ -1,47 +1,39 @@
 -- Demand 1 of every exported call, on any bytes.
-use Prim.Native.Nat.{ℕ, zero, suc, _+_, _*_, _≤_}
+use Prim.Native.Nat.{ℕ}
 use mathlib.Core.List.{List, [], _∷_}
 use mathlib.Core.Bool.{Bool, true, false, cond}
 use mathlib.Core.Path.{_≡_, refl, sym, _∙_, ap, subst}
 use mathlib.Core.Logic.{inl, _≢_}
 use native.Mathlib.Omega.{arith}
-use borrow.Author.Tests.{eqb-true}
-use lib.ListN.{length, drop, getD, getElem?, length-drop}
-use lib.Seq.{length-take-le}
-use lib.Dec.{eqb, leb, ltb}
+use lib.ListN.{length, getD, getElem?}
+use lib.Dec.{eqb, leb}
 use Rattle.protocol.specs.declared.TransactionTable.{TransactionTable}
 use Rattle.protocol.specs.declared.Enrolment.{Enrolment}
+use Rattle.protocol.specs.declared.Board.{Board}
 use Rattle.protocol.specs.declared.FailureInfo.{FailureInfo}
 use Rattle.protocol.specs.declared.Outcome.{Outcome}
 use Rattle.protocol.specs.declared.Outcome.the-variants.{Done, Again, Refused}
 use Rattle.protocol.specs.declared.RegistrarAnswer.{RegistrarAnswer}
 use Rattle.protocol.specs.declared.EndEntityAnswer.{EndEntityAnswer}
-use Rattle.protocol.specs.Table.{capacity}
-use Rattle.protocol.specs.Registrar.{registrarMessage, registrarIssue, registrarRefuse, registrarLapse, registrarClose}
-use Rattle.protocol.specs.EndEntity.{endEntityStart, endEntityMessage, endEntityTimeOut}
-use Rattle.protocol.specs.Promises.{OneOf, RegistrarPromise, EndEntityPromise, registrarNumbers, endEntityNumbers, hostNumbers}
+use Rattle.protocol.specs.EndEntity.{endEntityStart}
+use Rattle.protocol.specs.Promises.{OneOf, RegistrarPromise, EndEntityPromise}
 use Rattle.protocol.proofs.Tests.{true-false}
-use Rattle.protocol.proofs.RegistrarPromises as at-registrar
-use Rattle.protocol.proofs.EndEntityPromises as at-board
-use Rattle.packed.specs.declared.table.UnpackedTable.{UnpackedTable}
-use Rattle.packed.specs.declared.enrolment.UnpackedEnrolment.{UnpackedEnrolment}
-use Rattle.packed.specs.Bytes.{part}
+use Rattle.protocol.proofs.EndEntityPromises.{start-promise, start-never}
 use Rattle.packed.specs.Answer.{outcomeNumber, registrarAnswerBytes, endEntityAnswerBytes}
-use Rattle.packed.specs.Table.{transactionBytes, transactionOf, rowsOf, tableBytes, statesGood, packTable, unpackTable, packTableIn, AllSized, TableSized}
-use Rattle.packed.specs.Enrolment.{enrolmentBytes, enrolmentOf, unpackEnrolment, packEnrolmentIn, Sized}
-use Rattle.packed.proofs.Tests.{both}
+use Rattle.packed.specs.Table.{packTable, unpackTable, packTableIn, TableSized}
+use Rattle.packed.specs.Enrolment.{enrolmentBytes, unpackEnrolment, packEnrolmentIn, Sized}
 use Rattle.packed.proofs.TableInverse as table-inverse
 use Rattle.packed.proofs.EnrolmentInverse as enrolment-inverse
 use Rattle.packed.proofs.AnswerInverse.{registrar-refusal-at, end-entity-refusal-at}
 use Rattle.duskstall.specs.Boundary.{Crossing, boundaryFault, unlessFaulty, registrarWritten, registrarAnswered, registrarCrossing, endEntityWritten, endEntityAnswered, endEntityCrossing, startWritten, startCrossing}
-use Rattle.duskstall.specs.Calls.{idOf, nonceOf, hashOf, registrarInput, endEntityInput}
-use Rattle.lent.specs.Lent.{LentCall, LentStart, LentToRegistrar, LentToEndEntity, LentIssue, LentRefuse, LentLapse, LentClose, LentTimeOut, LentWorld, bytesOf, isMade}
-use Rattle.lent.specs.Kept.{LentPromise, LentDemand1, KeptByContract}
-use Rattle.lent.proofs.Sizes.{sixteen-in, thirty-two-in}
-use Rattle.lent.proofs.RegistrarSizes as registrar-sizes
-use Rattle.lent.proofs.EndEntitySizes as board-sizes
+use Rattle.duskstall.specs.Calls.{idOf, nonceOf}
+use Rattle.lent.specs.Calls.{registrarAnswers, registrarRefusals, EndEntityCall, endEntityAnswers, endEntityRefusals}
+use Rattle.lent.specs.Lent.{LentCall, AtRegistrar, AtEndEntity, EndEntityStart, LentWorld, bytesOf, crossing, isMade}
+use Rattle.lent.specs.Kept.{stateLent, answerLent, refusalsOf, LentPromise, LentDemand1, KeptByContract}
+use Rattle.lent.proofs.Sizes.{sixteen-in}
+use Rattle.lent.proofs.Forms.{RegistrarForm, registrar-form, EndEntityForm, end-entity-form}
 use Rattle.lent.proofs.RegistrarSizes.{RegistrarSized}
-use Rattle.lent.proofs.EndEntitySizes.{EndEntitySized}
+use Rattle.lent.proofs.EndEntitySizes.{EndEntitySized, start-sized}
 use Rattle.packed.proofs.TableInverse.{table-sized}
 use Rattle.packed.proofs.EnrolmentInverse.{enrolment-sized}
 use Rattle.lent.proofs.Stand.{table-in, enrolment-in}
@@ -125,36 +117,32 @@ module _ (a : EndEntityAnswer) (z : EndEntitySized a) (never : a .outcome ≡ Ag
 
 -- ## Every call
 
-module _ (w : LentWorld) (again : unpackTable (w .table) .ok ≡ true → packTable (unpackTable (w .table) .table) ≡ w .table) where
+module _ (w : LentWorld) where
+  of-keeps : (c : LentCall) → Keeps (refusalsOf c) (stateLent w c) (answerLent c) (crossing w c) → LentPromise w c
+  of-keeps c h = record { unchanged = h .unchanged; untouched = h .untouched; number = h .number }
+
+  -- an end entity's call does not look at the table
+  pub board-promised : (k : ℕ) (c : EndEntityCall) (b : List ℕ) → LentPromise w (AtEndEntity k c b)
+  board-promised k c b =
+      let f : EndEntityForm c = end-entity-form c in
+      let s : List ℕ = bytesOf (getElem? (w .enrolments) k) in
+      of-keeps (AtEndEntity k c b) (subst (Keeps (endEntityRefusals c) s b) (sym (f .crosses s b)) (board-keeps (endEntityRefusals c) (endEntityAnswers c) (f .promise) (f .sized) s b (f .args)))
+
+  pub start-promised : (d : Board) (s : List ℕ) (k : ℕ) (i n b : List ℕ) → LentPromise w (EndEntityStart d s k i n b)
+  start-promised d s k i n b =
+      of-keeps (EndEntityStart d s k i n b)
+      (start-keeps (endEntityStart k (idOf i) (nonceOf n)) (start-sized k (idOf i) (nonceOf n) (sixteen-in i) (sixteen-in n)) (start-never k (idOf i) (nonceOf n)) (λ m q e. start-promise k (idOf i) (nonceOf n) m q e .0) s b _)
+
   -- also where the bytes are those of a run, of which nothing is supposed
-  pub promised : (c : LentCall) → LentPromise w c
-  promised (LentStart d s k i n b) =
-      let h : Keeps _ s b _ = start-keeps (endEntityStart k (idOf i) (nonceOf n)) (board-sizes.start-sized k (idOf i) (nonceOf n) (sixteen-in i) (sixteen-in n)) (at-board.start-never k (idOf i) (nonceOf n)) (λ m q e. at-board.start-promise k (idOf i) (nonceOf n) m q e .0) s b _ in
-      record { unchanged = h .unchanged; untouched = h .untouched; number = h .number }
-  promised (LentToRegistrar bytes g d n b) =
-      let h : Keeps _ (w .table) b _ = registrar-keeps registrarNumbers (λ t. registrarMessage t (registrarInput g d n) bytes) (λ t. at-registrar.message-promise t (registrarInput g d n) bytes) (λ t z. registrar-sizes.message-sized t z (registrarInput g d n) (sixteen-in n) bytes) (w .table) b again _ in
-      record { unchanged = h .unchanged; untouched = h .untouched; number = h .number }
-  promised (LentToEndEntity k bytes g a h n b) =
-      let q : Keeps _ (bytesOf (getElem? (w .enrolments) k)) b _ = board-keeps endEntityNumbers (λ x. endEntityMessage x (endEntityInput g a h n) bytes) (λ x. at-board.message-promise x (endEntityInput g a h n) bytes) (λ x z. board-sizes.message-sized x z (endEntityInput g a h n) (thirty-two-in h) (sixteen-in n) bytes) (bytesOf (getElem? (w .enrolments) k)) b _ in
-      record { unchanged = q .unchanged; untouched = q .untouched; number = q .number }
-  promised (LentIssue i n h b) =
-      let q : Keeps _ (w .table) b _ = registrar-keeps hostNumbers (λ t. registrarIssue t (idOf i) (nonceOf n) (hashOf h)) (λ t. at-registrar.issue-promise t (idOf i) (nonceOf n) (hashOf h)) (λ t z. registrar-sizes.issue-sized t z (idOf i) (sixteen-in i) (nonceOf n) (hashOf h) (sixteen-in n) (thirty-two-in h)) (w .table) b again _ in
-      record { unchanged = q .unchanged; untouched = q .untouched; number = q .number }
-  promised (LentRefuse i n b) =
-      let q : Keeps _ (w .table) b _ = registrar-keeps hostNumbers (λ t. registrarRefuse t (idOf i) (nonceOf n)) (λ t. at-registrar.refuse-promise t (idOf i) (nonceOf n)) (λ t z. registrar-sizes.refuse-sized t z (idOf i) (sixteen-in i) (nonceOf n) (sixteen-in n)) (w .table) b again _ in
-      record { unchanged = q .unchanged; untouched = q .untouched; number = q .number }
-  promised (LentLapse i b) =
-      let q : Keeps _ (w .table) b _ = registrar-keeps hostNumbers (λ t. registrarLapse t (idOf i)) (λ t. at-registrar.lapse-promise t (idOf i)) (λ t z. registrar-sizes.lapse-sized t z (idOf i) (sixteen-in i)) (w .table) b again _ in
-      record { unchanged = q .unchanged; untouched = q .untouched; number = q .number }
-  promised (LentClose i b) =
-      let q : Keeps _ (w .table) b _ = registrar-keeps hostNumbers (λ t. registrarClose t (idOf i)) (λ t. at-registrar.close-promise t (idOf i)) (λ t z. registrar-sizes.close-sized t z (idOf i) (sixteen-in i)) (w .table) b again _ in
-      record { unchanged = q .unchanged; untouched = q .untouched; number = q .number }
-  promised (LentTimeOut k b) =
-      let q : Keeps _ (bytesOf (getElem? (w .enrolments) k)) b _ = board-keeps (31 ∷ []) endEntityTimeOut (λ x. at-board.time-out-promise x) (λ x z. board-sizes.time-out-sized x z) (bytesOf (getElem? (w .enrolments) k)) b true in
-      record { unchanged = q .unchanged; untouched = q .untouched; number = q .number }
+  pub promised : (unpackTable (w .table) .ok ≡ true → packTable (unpackTable (w .table) .table) ≡ w .table) → (c : LentCall) → LentPromise w c
+  promised again (AtRegistrar c b) =
+      let f : RegistrarForm c = registrar-form c in
+      of-keeps (AtRegistrar c b) (subst (Keeps (registrarRefusals c) (w .table) b) (sym (f .crosses (w .table) b)) (registrar-keeps (registrarRefusals c) (registrarAnswers c) (f .promise) (f .sized) (w .table) b again (f .args)))
+  promised again (AtEndEntity k c b) = board-promised k c b
+  promised again (EndEntityStart d s k i n b) = start-promised d s k i n b
 
 pub lent-demand1 : LentDemand1
-lent-demand1 w bytes c = promised w (table-inverse.pack-unpacked (w .table) bytes) c
+lent-demand1 w bytes = promised w (table-inverse.pack-unpacked (w .table) bytes)
 
 pub kept-by-contract : KeptByContract
 kept-by-contract w c code state answer h d = h .0 .state-is ∙ lent-demand1 w (h .1) c .unchanged (λ e. d (h .0 .code-is ∙ e))

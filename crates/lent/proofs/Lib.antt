@@ -2,6 +2,7 @@ pub mod ConfirmationBytes
 pub mod EndEntitySizes
 pub mod Events
 pub mod ForgottenTable
+pub mod Forms
 pub mod Header
 pub mod Kept
 pub mod Made

@@ -8,18 +8,17 @@ use mathlib.Core.Logic.{_≢_}
 use native.Mathlib.Omega.{arith}
 use lib.ListN.{length, getElem?, set}
 use lib.Dec.{ltb}
-use Rattle.protocol.proofs.Tests.{true-false, none-some}
+use Rattle.protocol.proofs.Tests.{none-some}
 use Rattle.packed.specs.Bytes.{AllBytes}
-use Rattle.packed.specs.Table.{packTable, unpackTable}
 use Rattle.packed.proofs.TableInverse.{pack-unpacked}
 use Rattle.duskstall.specs.Boundary.{Crossing}
-use Rattle.lent.specs.Lent.{LentCall, LentStart, LentToRegistrar, LentToEndEntity, LentIssue, LentRefuse, LentLapse, LentClose, LentTimeOut, LentEnrolment, LentWorld, bytesOf, crossing}
+use Rattle.lent.specs.Lent.{LentCall, AtRegistrar, AtEndEntity, EndEntityStart, LentEnrolment, LentWorld, bytesOf, crossing}
 use Rattle.lent.specs.Lent.{enrolmentLent, lentStep, lentAfter, lentBeginning}
 use Rattle.lent.specs.Kept.{LentPromise, stateLent}
 use Rattle.lent.specs.Header.{FairBytes, HeaderAgreement}
 use Rattle.lent.specs.OtherBytes.{InEnrolment, placeOf, withBytes, lendAt, lending, lentBy, hostStep, hostAfter, callsOf, AllAsLeft, HostRuns, HostDemand3, asLeft, EveryListAsLeft, Lends, rewritten, OnlyThere, HostOnAnyBytes}
 use Rattle.lent.proofs.Stand.{set-same}
-use Rattle.lent.proofs.Kept.{promised}
+use Rattle.lent.proofs.Kept.{board-promised, start-promised, promised}
 use Rattle.lent.proofs.ReadBack.{lent-reads}
 use Rattle.lent.proofs.Header.{header-demand3}
 
@@ -53,14 +52,9 @@ same-enrolment : (w : LentWorld) (k : ℕ) → lendAt w (InEnrolment k) (bytesOf
 same-enrolment w k = ap (λ (es : List LentEnrolment). record { table = w .table; enrolments = es; past = w .past }) (with-same (w .enrolments) k (getElem? (w .enrolments) k) refl)
 
 lent-same : (w : LentWorld) (c : LentCall) → lending w c (stateLent w c) ≡ w
-lent-same w (LentStart b s k i n a) = refl
-lent-same w (LentToRegistrar bytes g b n a) = refl
-lent-same w (LentToEndEntity k bytes g c h n a) = same-enrolment w k
-lent-same w (LentIssue i n h a) = refl
-lent-same w (LentRefuse i n a) = refl
-lent-same w (LentLapse i a) = refl
-lent-same w (LentClose i a) = refl
-lent-same w (LentTimeOut k a) = same-enrolment w k
+lent-same w (AtRegistrar c a) = refl
+lent-same w (AtEndEntity k c a) = same-enrolment w k
+lent-same w (EndEntityStart b s k i n a) = refl
 
 pub host-runs : HostRuns
 unfolding hostAfter callsOf lentAfter
@@ -141,58 +135,19 @@ not-added false es e p h = refl
 
 others : (w : LentWorld) (c : LentCall) (s : List ℕ) → OnlyThere w (lentStep (lending w c s) c) (placeOf c) (crossing (lending w c s) c)
 unfolding lentStep
-others w (LentStart d e k i n b) s = let x : Crossing = crossing w (LentStart d e k i n b) in (refl, (λ p h. not-added (ltb (x .code) 2) (w .enrolments) _ p h))
-others w (LentToRegistrar bytes g d n b) s = (refl, refl)
-others w (LentToEndEntity k bytes g a h n b) s = only-enrolment w (LentToEndEntity k bytes g a h n b) k s (crossing (lending w (LentToEndEntity k bytes g a h n b) s) (LentToEndEntity k bytes g a h n b))
-others w (LentIssue i n h b) s = (refl, refl)
-others w (LentRefuse i n b) s = (refl, refl)
-others w (LentLapse i b) s = (refl, refl)
-others w (LentClose i b) s = (refl, refl)
-others w (LentTimeOut k b) s = only-enrolment w (LentTimeOut k b) k s (crossing (lending w (LentTimeOut k b) s) (LentTimeOut k b))
+others w (AtRegistrar c b) s = (refl, refl)
+others w (AtEndEntity k c b) s = only-enrolment w (AtEndEntity k c b) k s (crossing (lending w (AtEndEntity k c b) s) (AtEndEntity k c b))
+others w (EndEntityStart d e k i n b) s = let x : Crossing = crossing w (EndEntityStart d e k i n b) in (refl, (λ p h. not-added (ltb (x .code) 2) (w .enrolments) _ p h))
 
 found : (w : LentWorld) (c : LentCall) (s : List ℕ) → Lends w (placeOf c) → stateLent (lending w c s) c ≡ s
-found w (LentStart d e k i n b) s l = absurd l
-found w (LentToRegistrar bytes g d n b) s l = refl
-found w (LentToEndEntity k bytes g a h n b) s l = ap bytesOf (with-there (w .enrolments) k s (l .0) (l .1))
-found w (LentIssue i n h b) s l = refl
-found w (LentRefuse i n b) s l = refl
-found w (LentLapse i b) s l = refl
-found w (LentClose i b) s l = refl
-found w (LentTimeOut k b) s l = ap bytesOf (with-there (w .enrolments) k s (l .0) (l .1))
-
-no-table : unpackTable [] .ok ≡ true → packTable (unpackTable [] .table) ≡ []
-unfolding unpackTable
-no-table e = true-false (sym e)
-
--- an end entity's call does not look at the table
-module _ (w : LentWorld) where
-  abbrev tableless : LentWorld
-  tableless = record { table = []; enrolments = w .enrolments; past = w .past }
-
-  promise-start : (d : _) (e : List ℕ) (k : ℕ) (i n b : List ℕ) → LentPromise w (LentStart d e k i n b)
-  promise-start d e k i n b =
-      let q : LentPromise tableless (LentStart d e k i n b) = promised tableless no-table (LentStart d e k i n b) in
-      record { unchanged = q .unchanged; untouched = q .untouched; number = q .number }
-
-  promise-message : (k : ℕ) (bytes : List ℕ) (g a : ℕ) (h n b : List ℕ) → LentPromise w (LentToEndEntity k bytes g a h n b)
-  promise-message k bytes g a h n b =
-      let q : LentPromise tableless (LentToEndEntity k bytes g a h n b) = promised tableless no-table (LentToEndEntity k bytes g a h n b) in
-      record { unchanged = q .unchanged; untouched = q .untouched; number = q .number }
-
-  promise-time-out : (k : ℕ) (b : List ℕ) → LentPromise w (LentTimeOut k b)
-  promise-time-out k b =
-      let q : LentPromise tableless (LentTimeOut k b) = promised tableless no-table (LentTimeOut k b) in
-      record { unchanged = q .unchanged; untouched = q .untouched; number = q .number }
+found w (AtRegistrar c b) s l = refl
+found w (AtEndEntity k c b) s l = ap bytesOf (with-there (w .enrolments) k s (l .0) (l .1))
+found w (EndEntityStart d e k i n b) s l = absurd l
 
 kept : (w : LentWorld) (c : LentCall) (s : List ℕ) → AllBytes s → LentPromise (lending w c s) c
-kept w (LentStart d e k i n b) s all = promise-start w d e k i n b
-kept w (LentToRegistrar bytes g d n b) s all = promised _ (pack-unpacked s all) (LentToRegistrar bytes g d n b)
-kept w (LentToEndEntity k bytes g a h n b) s all = promise-message _ k bytes g a h n b
-kept w (LentIssue i n h b) s all = promised _ (pack-unpacked s all) (LentIssue i n h b)
-kept w (LentRefuse i n b) s all = promised _ (pack-unpacked s all) (LentRefuse i n b)
-kept w (LentLapse i b) s all = promised _ (pack-unpacked s all) (LentLapse i b)
-kept w (LentClose i b) s all = promised _ (pack-unpacked s all) (LentClose i b)
-kept w (LentTimeOut k b) s all = promise-time-out _ k b
+kept w (AtRegistrar c b) s all = promised _ (pack-unpacked s all) (AtRegistrar c b)
+kept w (AtEndEntity k c b) s all = board-promised _ k c b
+kept w (EndEntityStart d e k i n b) s all = start-promised w d e k i n b
 
 pub host-on-any-bytes : HostOnAnyBytes
 host-on-any-bytes w h all =

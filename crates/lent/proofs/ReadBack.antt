@@ -1,8 +1,8 @@
 -- The bytes after a call read as the call's answer; and what holds after any list of calls.
 use Prim.Native.Nat.{ℕ}
 use mathlib.Core.List.{List}
-use mathlib.Core.Bool.{Bool, true, false, cond, _&&_}
-use mathlib.Core.Path.{_≡_, refl, sym, _∙_, ap, subst}
+use mathlib.Core.Bool.{Bool, true, cond, _&&_}
+use mathlib.Core.Path.{_≡_, sym, _∙_, ap, subst}
 use borrow.Author.Tests.{eq-eqb}
 use lib.ListN.{length, getElem?}
 use lib.Dec.{eqb, leb}
@@ -10,46 +10,37 @@ use Rattle.protocol.specs.declared.TransactionTable.{TransactionTable}
 use Rattle.protocol.specs.declared.Enrolment.{Enrolment}
 use Rattle.protocol.specs.declared.RegistrarAnswer.{RegistrarAnswer}
 use Rattle.protocol.specs.declared.EndEntityAnswer.{EndEntityAnswer}
-use Rattle.protocol.specs.Registrar.{registrarMessage, registrarIssue, registrarRefuse, registrarLapse, registrarClose}
-use Rattle.protocol.specs.EndEntity.{endEntityStart, endEntityMessage, endEntityTimeOut}
+use Rattle.protocol.specs.EndEntity.{endEntityStart}
 use Rattle.protocol.specs.Run.{World, run}
-use Rattle.protocol.proofs.Tests.{true-false}
 use Rattle.protocol.proofs.Reachable.{Sound, reachable}
 use Rattle.packed.specs.declared.table.UnpackedTable.{UnpackedTable}
 use Rattle.packed.specs.declared.enrolment.UnpackedEnrolment.{UnpackedEnrolment}
-use Rattle.packed.specs.Arrays.{unpack16, unpack32}
+use Rattle.packed.specs.Arrays.{unpack16}
 use Rattle.packed.specs.Answer.{outcomeNumber, registrarAnswerBytes, endEntityAnswerBytes}
 use Rattle.packed.specs.Table.{packTable, unpackTable, TableSized}
 use Rattle.packed.specs.Enrolment.{enrolmentBytes, packEnrolment, packEnrolmentIn, unpackEnrolment, Sized}
 use Rattle.packed.proofs.AnswerInverse.{registrar-back, end-entity-back}
-use Rattle.duskstall.specs.Boundary.{Crossing, boundaryFault, unlessFaulty, registrarWritten, registrarAnswered, registrarCrossing, endEntityWritten, endEntityAnswered, endEntityCrossing, startWritten, startCrossing}
-use Rattle.duskstall.specs.Calls.{idOf, nonceOf, hashOf, registrarInput, endEntityInput}
-use Rattle.lent.specs.Lent.{LentStart, LentToRegistrar, LentToEndEntity, LentIssue, LentRefuse, LentLapse, LentClose, LentTimeOut, LentWorld, bytesOf, isMade, lentAfter, lentBeginning, made}
+use Rattle.duskstall.specs.Boundary.{Crossing, registrarWritten, registrarAnswered, registrarCrossing, endEntityWritten, endEntityAnswered, endEntityCrossing, startWritten, startCrossing}
+use Rattle.duskstall.specs.Calls.{idOf, nonceOf}
+use Rattle.lent.specs.Calls.{registrarCrosses, registrarAnswers, endEntityCrosses, endEntityAnswers}
+use Rattle.lent.specs.Lent.{AtRegistrar, AtEndEntity, EndEntityStart, LentWorld, bytesOf, isMade, lentAfter, lentBeginning, made}
 use Rattle.lent.specs.Reads.{registrarRead, endEntityRead, tableIn, LentReads, LentSound}
-use Rattle.lent.proofs.Sizes.{sixteen-in, thirty-two-in}
-use Rattle.lent.proofs.RegistrarSizes as registrar-sizes
-use Rattle.lent.proofs.EndEntitySizes as board-sizes
+use Rattle.lent.proofs.Sizes.{sixteen-in}
+use Rattle.lent.proofs.Forms.{RegistrarForm, registrar-form, EndEntityForm, end-entity-form}
 use Rattle.lent.proofs.RegistrarSizes.{RegistrarSized}
-use Rattle.lent.proofs.EndEntitySizes.{EndEntitySized}
-use Rattle.lent.proofs.Stand.{Stands, table-read, table-in, enrolment-read, enrolment-in, read-table}
+use Rattle.lent.proofs.EndEntitySizes.{EndEntitySized, start-sized}
+use Rattle.lent.proofs.Stand.{Stands, made-of, table-read, table-in, enrolment-read, enrolment-in, read-table}
 use Rattle.packed.proofs.TableInverse.{table-sized}
 use Rattle.packed.proofs.EnrolmentInverse.{enrolment-sized}
 use Rattle.lent.proofs.Kept.{promised}
 use Rattle.lent.proofs.Theorem.{stands}
-
--- a call that is made had no fault
-made-of : (P : Crossing → Type 0) (o p r : Bool) (s b : List ℕ) (x : Crossing) → (o ≡ true → r ≡ true → P x) → isMade (unlessFaulty (boundaryFault o p r) s b x .code) ≡ true → P (unlessFaulty (boundaryFault o p r) s b x)
-made-of P true true true s b x h m = h refl refl
-made-of P true true false s b x h m = true-false (sym m)
-made-of P true false r s b x h m = true-false (sym m)
-made-of P false p r s b x h m = true-false (sym m)
 
 registrar-reads : (p : Bool) (f : TransactionTable → RegistrarAnswer) (s b : List ℕ) → ((t : TransactionTable) → TableSized t → RegistrarSized (f t)) → isMade (registrarCrossing p f s b .code) ≡ true → registrarRead (registrarCrossing p f s b) ≡ f (unpackTable s .table)
 unfolding registrarAnswered
 registrar-reads p f s b sized m =
     let a : RegistrarAnswer = f (unpackTable s .table) in
     made-of (λ x. registrarRead x ≡ a) (unpackTable s .ok) p (leb registrarAnswerBytes (length b)) s b (registrarWritten a s b)
-    (λ o r.
+    (λ o _ r.
     let z : RegistrarSized a = sized (unpackTable s .table) (table-sized s o) in
     registrar-back a b (z .outgoing) r (z .outcome) (z .slot) _ (ap (λ (u : UnpackedTable). u .table) (table-read (a .table) (z .table) (table-in s (a .table) o))))
     m
@@ -59,7 +50,7 @@ unfolding endEntityAnswered
 board-reads p f s b sized m =
     let a : EndEntityAnswer = f (unpackEnrolment s .enrolment) in
     made-of (λ x. endEntityRead x ≡ a) (unpackEnrolment s .ok) p (leb endEntityAnswerBytes (length b)) s b (endEntityWritten a s b)
-    (λ o r.
+    (λ o _ r.
     let z : EndEntitySized a = sized (unpackEnrolment s .enrolment) (enrolment-sized s o) in
     end-entity-back a b (z .outgoing) r (z .outcome) _ (ap (λ (u : UnpackedEnrolment). u .enrolment) (enrolment-read (a .enrolment) (z .enrolment) (enrolment-in s (a .enrolment) o))))
     m
@@ -72,20 +63,20 @@ start-reads : (p : Bool) (a : EndEntityAnswer) (s b : List ℕ) → EndEntitySiz
 unfolding startCrossing
 start-reads p a s b z m =
     made-of (λ x. x .code ≡ 0 → endEntityRead x ≡ a) (eqb (length s) enrolmentBytes) p (leb endEntityAnswerBytes (length b)) s b (startWritten a s b)
-    (λ o r e. end-entity-back a b (z .outgoing) r (z .outcome) _ (ap (λ (u : UnpackedEnrolment). u .enrolment) (enrolment-read (a .enrolment) (z .enrolment) (start-state a s o e))))
+    (λ o _ r e. end-entity-back a b (z .outgoing) r (z .outcome) _ (ap (λ (u : UnpackedEnrolment). u .enrolment) (enrolment-read (a .enrolment) (z .enrolment) (start-state a s o e))))
     m
 
 pub lent-reads : LentReads
-lent-reads w (LentStart d s k i n b) m = start-reads (unpack16 i .ok && unpack16 n .ok) (endEntityStart k (idOf i) (nonceOf n)) s b (board-sizes.start-sized k (idOf i) (nonceOf n) (sixteen-in i) (sixteen-in n)) m
-lent-reads w (LentToRegistrar bytes g d n b) m = registrar-reads (unpack16 n .ok) (λ t. registrarMessage t (registrarInput g d n) bytes) (w .table) b (λ t z. registrar-sizes.message-sized t z (registrarInput g d n) (sixteen-in n) bytes) m
-lent-reads w (LentToEndEntity k bytes g a h n b) m =
-    board-reads (unpack32 h .ok && unpack16 n .ok) (λ x. endEntityMessage x (endEntityInput g a h n) bytes) (bytesOf (getElem? (w .enrolments) k)) b (λ x z. board-sizes.message-sized x z (endEntityInput g a h n) (thirty-two-in h) (sixteen-in n) bytes) m
-lent-reads w (LentIssue i n h b) m =
-    registrar-reads (unpack16 i .ok && (unpack16 n .ok && unpack32 h .ok)) (λ t. registrarIssue t (idOf i) (nonceOf n) (hashOf h)) (w .table) b (λ t z. registrar-sizes.issue-sized t z (idOf i) (sixteen-in i) (nonceOf n) (hashOf h) (sixteen-in n) (thirty-two-in h)) m
-lent-reads w (LentRefuse i n b) m = registrar-reads (unpack16 i .ok && unpack16 n .ok) (λ t. registrarRefuse t (idOf i) (nonceOf n)) (w .table) b (λ t z. registrar-sizes.refuse-sized t z (idOf i) (sixteen-in i) (nonceOf n) (sixteen-in n)) m
-lent-reads w (LentLapse i b) m = registrar-reads (unpack16 i .ok) (λ t. registrarLapse t (idOf i)) (w .table) b (λ t z. registrar-sizes.lapse-sized t z (idOf i) (sixteen-in i)) m
-lent-reads w (LentClose i b) m = registrar-reads (unpack16 i .ok) (λ t. registrarClose t (idOf i)) (w .table) b (λ t z. registrar-sizes.close-sized t z (idOf i) (sixteen-in i)) m
-lent-reads w (LentTimeOut k b) m = board-reads true endEntityTimeOut (bytesOf (getElem? (w .enrolments) k)) b (λ x z. board-sizes.time-out-sized x z) m
+lent-reads w (AtRegistrar c b) m =
+    let f : RegistrarForm c = registrar-form c in
+    let e : registrarCrosses c (w .table) b ≡ registrarCrossing (f .args) (registrarAnswers c) (w .table) b = f .crosses (w .table) b in
+    ap registrarRead e ∙ registrar-reads (f .args) (registrarAnswers c) (w .table) b (f .sized) (subst (λ (x : Crossing). isMade (x .code) ≡ true) e m)
+lent-reads w (AtEndEntity k c b) m =
+    let f : EndEntityForm c = end-entity-form c in
+    let s : List ℕ = bytesOf (getElem? (w .enrolments) k) in
+    let e : endEntityCrosses c s b ≡ endEntityCrossing (f .args) (endEntityAnswers c) s b = f .crosses s b in
+    ap endEntityRead e ∙ board-reads (f .args) (endEntityAnswers c) s b (f .sized) (subst (λ (x : Crossing). isMade (x .code) ≡ true) e m)
+lent-reads w (EndEntityStart d s k i n b) m = start-reads (unpack16 i .ok && unpack16 n .ok) (endEntityStart k (idOf i) (nonceOf n)) s b (start-sized k (idOf i) (nonceOf n) (sixteen-in i) (sixteen-in n)) m
 
 -- ## After any list of calls: nothing is supposed of the bytes
 

@@ -1,39 +1,33 @@
 -- A registrar's call changes no slot's bytes but those of the slot in its answer.
 use Prim.Native.Nat.{ℕ, zero, suc, _+_, _*_}
 use mathlib.Core.List.{List, [], _∷_, _++_}
-use mathlib.Core.Bool.{Bool, true, false, _&&_}
+use mathlib.Core.Bool.{Bool, true}
 use mathlib.Core.Option.{Option, none, some}
-use mathlib.Core.Path.{_≡_, refl, sym, _∙_, ap, subst}
+use mathlib.Core.Path.{_≡_, sym, _∙_, ap, subst}
 use mathlib.Core.Logic.{_≢_}
 use native.Mathlib.Omega.{arith}
-use lib.ListN.{length, take, getElem?, length-append}
+use lib.ListN.{length, take, getElem?}
 use lib.Seq.{drop-nil, take-at}
 use lib.Dec.{leb}
 use Rattle.protocol.specs.declared.Transaction.{Transaction}
 use Rattle.protocol.specs.declared.TransactionTable.{TransactionTable}
 use Rattle.protocol.specs.declared.RegistrarAnswer.{RegistrarAnswer}
-use Rattle.protocol.specs.Registrar.{registrarMessage, registrarIssue, registrarRefuse, registrarLapse, registrarClose}
-use Rattle.protocol.specs.Promises.{RegistrarPromise, registrarNumbers, hostNumbers}
+use Rattle.protocol.specs.Promises.{RegistrarPromise}
 use Rattle.protocol.specs.Run.{run}
-use Rattle.protocol.proofs.Tests.{true-false}
-use Rattle.protocol.proofs.RegistrarPromises as at-registrar
 use Rattle.packed.specs.declared.table.UnpackedTable.{UnpackedTable}
-use Rattle.packed.specs.Arrays.{unpack16, unpack32}
 use Rattle.packed.specs.Bytes.{part}
 use Rattle.packed.specs.Answer.{registrarAnswerBytes, registrarAnswerOf}
-use Rattle.packed.specs.Table.{transactionBytes, packTransaction, packRows, packTable, packTableIn, unpackTable, Sized, AllSized, TableSized}
+use Rattle.packed.specs.Table.{transactionBytes, packTransaction, packRows, packTable, packTableIn, unpackTable, AllSized, TableSized}
 use Rattle.packed.proofs.Parts.{skip}
-use Rattle.packed.proofs.TableInverse.{pack-unpacked, table-sized}
+use Rattle.packed.proofs.TableInverse.{packed-length, pack-unpacked, table-sized}
 use Rattle.packed.proofs.AnswerInverse.{registrar-back}
-use Rattle.duskstall.specs.Boundary.{Crossing, boundaryFault, unlessFaulty, registrarWritten, registrarAnswered, registrarCrossing}
-use Rattle.duskstall.specs.Calls.{idOf, nonceOf, hashOf, registrarInput}
-use Rattle.lent.specs.Lent.{LentStart, LentToRegistrar, LentToEndEntity, LentIssue, LentRefuse, LentLapse, LentClose, LentTimeOut, LentWorld, isMade, lentAfter, lentBeginning, made}
-use Rattle.lent.specs.OtherBytes.{StatePlace, InCall, InTable, InEnrolment}
+use Rattle.duskstall.specs.Boundary.{Crossing, registrarWritten, registrarAnswered, registrarCrossing}
+use Rattle.lent.specs.Calls.{registrarCrosses, registrarAnswers, registrarRefusals}
+use Rattle.lent.specs.Lent.{LentWorld, isMade, lentAfter, lentBeginning, made}
 use Rattle.lent.specs.SlotBytes.{slotBytes, answerSlot, OnlyItsSlot, LentSlots, LentSlotsAfter}
-use Rattle.lent.proofs.Sizes.{sixteen-in, thirty-two-in}
-use Rattle.lent.proofs.RegistrarSizes as registrar-sizes
 use Rattle.lent.proofs.RegistrarSizes.{RegistrarSized}
-use Rattle.lent.proofs.Stand.{Stands, table-in, table-read, read-table}
+use Rattle.lent.proofs.Forms.{RegistrarForm, registrar-form}
+use Rattle.lent.proofs.Stand.{Stands, made-of, table-in, table-read, read-table}
 use Rattle.lent.proofs.Theorem.{stands}
 
 -- ## The slots of a packed table
@@ -42,27 +36,17 @@ abbrev rowBytes : Option Transaction → List ℕ
 rowBytes none = []
 rowBytes (some r) = packTransaction r
 
-row-length : (t : Transaction) → Sized t → length (packTransaction t) ≡ transactionBytes
-unfolding packTransaction
-row-length t z = simp length-append (omega (arith, z .id, z .taken, z .sent, z .hash))
-
 slot-is : (ts : List Transaction) → AllSized ts → (p : ℕ) → slotBytes p (packRows ts) ≡ rowBytes (getElem? ts p)
 unfolding packRows
 slot-is [] z p = ap (take transactionBytes) (drop-nil (p * transactionBytes))
-slot-is (t ∷ ts) z zero = take-at (packTransaction t) (packRows ts) transactionBytes (row-length t (z .0))
+slot-is (t ∷ ts) z zero = take-at (packTransaction t) (packRows ts) transactionBytes (packed-length t (z .0))
 slot-is (t ∷ ts) z (suc p) =
     let e : suc p * transactionBytes ≡ transactionBytes + p * transactionBytes = omega arith in
     ap (λ (k : ℕ). part k transactionBytes (packTransaction t ++ packRows ts)) e
-    ∙ skip (packTransaction t) (packRows ts) transactionBytes (row-length t (z .0)) (p * transactionBytes) transactionBytes
+    ∙ skip (packTransaction t) (packRows ts) transactionBytes (packed-length t (z .0)) (p * transactionBytes) transactionBytes
     ∙ slot-is ts (z .1) p
 
 -- ## A call that is made
-
-made-of : (P : Crossing → Type 0) (o p r : Bool) (s b : List ℕ) (x : Crossing) → (o ≡ true → r ≡ true → P x) → isMade (unlessFaulty (boundaryFault o p r) s b x .code) ≡ true → P (unlessFaulty (boundaryFault o p r) s b x)
-made-of P true true true s b x h m = h refl refl
-made-of P true true false s b x h m = true-false (sym m)
-made-of P true false r s b x h m = true-false (sym m)
-made-of P false p r s b x h m = true-false (sym m)
 
 slot-at : (a : RegistrarAnswer) (b s : List ℕ) → registrarAnswerOf b s ≡ a → answerSlot b ≡ a .slot .0
 unfolding registrarAnswerOf
@@ -91,38 +75,16 @@ module _ (s b : List ℕ) (again : unpackTable s .ok ≡ true → packTable (unp
 
     only-slot : (p : Bool) → isMade (registrarCrossing p f s b .code) ≡ true → Only (registrarCrossing p f s b)
     unfolding registrarAnswered
-    only-slot p = made-of Only (unpackTable s .ok) p (leb registrarAnswerBytes (length b)) s b (registrarWritten (f t) s b) written
+    only-slot p = made-of Only (unpackTable s .ok) p (leb registrarAnswerBytes (length b)) s b (registrarWritten (f t) s b) (λ o _ r. written o r)
 
 -- ## Every call
 
-abbrev IsTable : StatePlace → Type 0
-IsTable InCall = ⊥
-IsTable InTable = Unit {0}
-IsTable (InEnrolment k) = ⊥
-
-is-table : {q : StatePlace} → q ≡ InTable → IsTable q
-is-table e = subst IsTable (sym e) tt
-
-module _ (w : LentWorld) (again : unpackTable (w .table) .ok ≡ true → packTable (unpackTable (w .table) .table) ≡ w .table) where
-  only : OnlyItsSlot w
-  only (LentStart d s k i n b) q = absurd (is-table q)
-  only (LentToRegistrar bytes g d n b) q =
-      only-slot (w .table) b again registrarNumbers (λ t. registrarMessage t (registrarInput g d n) bytes) (λ t. at-registrar.message-promise t (registrarInput g d n) bytes)
-      (λ t z. registrar-sizes.message-sized t z (registrarInput g d n) (sixteen-in n) bytes) (unpack16 n .ok)
-  only (LentToEndEntity k bytes g a h n b) q = absurd (is-table q)
-  only (LentIssue i n h b) q =
-      only-slot (w .table) b again hostNumbers (λ t. registrarIssue t (idOf i) (nonceOf n) (hashOf h)) (λ t. at-registrar.issue-promise t (idOf i) (nonceOf n) (hashOf h))
-      (λ t z. registrar-sizes.issue-sized t z (idOf i) (sixteen-in i) (nonceOf n) (hashOf h) (sixteen-in n) (thirty-two-in h)) (unpack16 i .ok && (unpack16 n .ok && unpack32 h .ok))
-  only (LentRefuse i n b) q =
-      only-slot (w .table) b again hostNumbers (λ t. registrarRefuse t (idOf i) (nonceOf n)) (λ t. at-registrar.refuse-promise t (idOf i) (nonceOf n))
-      (λ t z. registrar-sizes.refuse-sized t z (idOf i) (sixteen-in i) (nonceOf n) (sixteen-in n)) (unpack16 i .ok && unpack16 n .ok)
-  only (LentLapse i b) q =
-      only-slot (w .table) b again hostNumbers (λ t. registrarLapse t (idOf i)) (λ t. at-registrar.lapse-promise t (idOf i))
-      (λ t z. registrar-sizes.lapse-sized t z (idOf i) (sixteen-in i)) (unpack16 i .ok)
-  only (LentClose i b) q =
-      only-slot (w .table) b again hostNumbers (λ t. registrarClose t (idOf i)) (λ t. at-registrar.close-promise t (idOf i))
-      (λ t z. registrar-sizes.close-sized t z (idOf i) (sixteen-in i)) (unpack16 i .ok)
-  only (LentTimeOut k b) q = absurd (is-table q)
+only : (w : LentWorld) → (unpackTable (w .table) .ok ≡ true → packTable (unpackTable (w .table) .table) ≡ w .table) → OnlyItsSlot w
+only w again c b m =
+    let f : RegistrarForm c = registrar-form c in
+    let e : registrarCrosses c (w .table) b ≡ registrarCrossing (f .args) (registrarAnswers c) (w .table) b = f .crosses (w .table) b in
+    subst (λ (x : Crossing). (p : ℕ) → p ≢ answerSlot (x .answer) → slotBytes p (x .state) ≡ slotBytes p (w .table)) (sym e)
+    (only-slot (w .table) b again (registrarRefusals c) (registrarAnswers c) (f .promise) (f .sized) (f .args) (subst (λ (x : Crossing). isMade (x .code) ≡ true) e m))
 
 pub lent-slots : LentSlots
 lent-slots w all = only w (pack-unpacked (w .table) all)

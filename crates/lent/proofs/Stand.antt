@@ -1,7 +1,7 @@
 -- Bytes that stand for a run's world: what they are, and what is read out of them.
 use Prim.Native.Nat.{ℕ, zero, suc}
 use mathlib.Core.List.{List, [], _∷_, _++_}
-use mathlib.Core.Bool.{true}
+use mathlib.Core.Bool.{Bool, true, false}
 use mathlib.Core.Option.{Option, none, some}
 use mathlib.Core.Path.{_≡_, refl, sym, _∙_, ap}
 use lib.ListN.{length, getD, getElem?, set}
@@ -14,7 +14,7 @@ use Rattle.protocol.specs.Table.{capacity}
 use Rattle.protocol.specs.declared.RegistrarAnswer.{RegistrarAnswer}
 use Rattle.protocol.specs.declared.EndEntityAnswer.{EndEntityAnswer}
 use Rattle.protocol.specs.Run.{World, BoardEnrolment, sentBy}
-use Rattle.protocol.proofs.Tests.{some-some}
+use Rattle.protocol.proofs.Tests.{true-false, some-some}
 use Rattle.packed.specs.declared.table.UnpackedTable.{UnpackedTable}
 use Rattle.packed.specs.declared.enrolment.UnpackedEnrolment.{UnpackedEnrolment}
 use Rattle.packed.specs.Bytes.{packAt}
@@ -26,6 +26,7 @@ use Rattle.packed.proofs.Tests.{both}
 use Rattle.packed.proofs.AnswerInverse.{registrar-sends-back, registrar-outgoing-back, end-entity-sends-back, end-entity-outgoing-back}
 use Rattle.packed.proofs.TableInverse as table-inverse
 use Rattle.packed.proofs.EnrolmentInverse as enrolment-inverse
+use Rattle.duskstall.specs.Boundary.{Crossing, boundaryFault, unlessFaulty}
 use Rattle.lent.specs.Lent.{LentEnrolment, LentWorld, isMade, registrarSent, endEntitySent, enrolmentsOf, EnrolmentsOk, TablesOk, eventsOf, worldOf}
 
 pub record Stand (e : LentEnrolment) (x : BoardEnrolment) : Type 0 where
@@ -123,6 +124,14 @@ module _ {l : LentWorld} {w : World} (s : Stands l w) where
 
   pub world-back : worldOf l ≡ w
   world-back = rw (read-table, enrolments-back (l .enrolments) (w .enrolments) (s .enrolments), s .past)
+
+-- what holds of a call that is made, if it holds where nothing is at fault
+pub made-of : (P : Crossing → Type 0) (o p r : Bool) (s b : List ℕ) (x : Crossing)
+    → (o ≡ true → p ≡ true → r ≡ true → P x) → isMade (unlessFaulty (boundaryFault o p r) s b x .code) ≡ true → P (unlessFaulty (boundaryFault o p r) s b x)
+made-of P true true true s b x h m = h refl refl refl
+made-of P true true false s b x h m = true-false (sym m)
+made-of P true false r s b x h m = true-false (sym m)
+made-of P false p r s b x h m = true-false (sym m)
 
 -- a call that is done, repeated or refused was made
 pub was-made : (o : Outcome) → isMade (outcomeNumber o) ≡ true

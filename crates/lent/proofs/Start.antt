@@ -22,14 +22,14 @@ use Rattle.packed.specs.Enrolment.{enrolmentBytes, packEnrolmentIn}
 use Rattle.packed.proofs.AnswerInverse.{end-entity-outcome-back}
 use Rattle.duskstall.specs.Boundary.{Crossing, boundaryFault, unlessFaulty, startWritten, startCrossing}
 use Rattle.duskstall.specs.Calls.{idOf, nonceOf}
-use Rattle.lent.specs.Lent.{LentCall, LentStart, callOf, LentWorld, startLent, isMade, eventsOf}
+use Rattle.lent.specs.Lent.{LentCall, EndEntityStart, callOf, LentWorld, startLent, isMade, eventsOf}
 use Rattle.lent.proofs.Sizes.{sixteen-in}
 use Rattle.lent.proofs.EndEntitySizes.{EndEntitySized, start-sized}
 use Rattle.lent.proofs.Stand.{Stands, stand-add, read-table, table-ok, end-entity-sent-back}
 
 module _ (l : LentWorld) (w : World) (st : Stands l w) (d : Board) (s : List ℕ) (k : ℕ) (i n b : List ℕ) where
   abbrev c : LentCall
-  c = LentStart d s k i n b
+  c = EndEntityStart d s k i n b
 
   abbrev After : EndEntityAnswer → Crossing → Type 0
   After a x = Stands (startLent l c d x) (cond (isMade (x .code)) (startDid w (callOf c) d a (unlessRefused (a .outcome) (idOf i))) w)

@@ -16,17 +16,18 @@ use Rattle.protocol.specs.EndEntity.{endEntityStart}
 use Rattle.protocol.specs.Run.{Call, World, BoardEnrolment, beginning, run}
 use Rattle.protocol.specs.Agreement.{Fair}
 use Rattle.protocol.specs.Witness.{board, irBytes, ipBytes, pkiConfBytes, enrols, acceptBytes, declineBytes, boardSays, EndsIn}
-use Rattle.protocol.proofs.Tests.{some-some}
+use Rattle.protocol.proofs.Tests.{none-some, some-some}
 use Rattle.protocol.proofs.Witness.{witnesses}
 use Rattle.packed.specs.Arrays.{unpack16, unpack32}
 use Rattle.packed.specs.Answer.{registrarAnswerBytes, endEntityAnswerBytes}
 use Rattle.packed.specs.Table.{tableBytes}
 use Rattle.packed.specs.Enrolment.{stateNumber, enrolmentBytes, unpackEnrolment}
 use Rattle.duskstall.specs.Boundary.{Crossing, yes, startCrossing}
-use Rattle.lent.specs.Lent.{LentCall, LentStart, LentToRegistrar, LentToEndEntity, LentIssue, LentRefuse, LentLapse, LentClose, LentTimeOut, callOf, LentEnrolment, LentWorld, StandsFor, enrolmentsOf, crossing, isMade, lentStep, lentAfter, lentBeginning, made, worldOf, enrolmentLent}
+use Rattle.lent.specs.Calls.{RegistrarMessage, RegistrarIssue, EndEntityMessage}
+use Rattle.lent.specs.Lent.{LentCall, AtRegistrar, AtEndEntity, EndEntityStart, callOf, LentEnrolment, LentWorld, enrolmentsOf, crossing, isMade, lentStep, lentAfter, lentBeginning, made, worldOf, enrolmentLent}
 use Rattle.lent.specs.Made.{Fits}
 use Rattle.lent.specs.Places.{enrolmentState}
-use Rattle.lent.specs.Header.{FairBytes, IsClose, ClosedBytes, InSlot, FoundBytes, HeaderAgreement}
+use Rattle.lent.specs.Header.{FairBytes, IsClose, ClosedBytes, FoundBytes, HeaderAgreement}
 use Rattle.lent.specs.Witness.{lentEnrols, LentEnds, LentWitnesses}
 use Rattle.lent.proofs.Events.{Adds, call-adds}
 use Rattle.lent.proofs.Stand.{Stands}
@@ -61,14 +62,9 @@ kept w c k (some e) x = omega (arith, length-set (w .enrolments) k (record { boa
 
 stays : (l : LentWorld) (c : LentCall) → length (l .enrolments) ≤ length (lentStep l c .enrolments)
 unfolding lentStep
-stays l (LentStart d s k i n b) = let x : Crossing = crossing l (LentStart d s k i n b) in grown (ltb (x .code) 2) (l .enrolments) (record { board = d; bytes = x .state })
-stays l (LentToRegistrar bytes g d n b) = omega arith
-stays l (LentToEndEntity k bytes g a y n b) = kept l _ k (getElem? (l .enrolments) k) _
-stays l (LentIssue i n y b) = omega arith
-stays l (LentRefuse i n b) = omega arith
-stays l (LentLapse i b) = omega arith
-stays l (LentClose i b) = omega arith
-stays l (LentTimeOut k b) = kept l _ k (getElem? (l .enrolments) k) _
+stays l (AtRegistrar c b) = omega arith
+stays l (AtEndEntity k c b) = kept l _ k (getElem? (l .enrolments) k) _
+stays l (EndEntityStart d s k i n b) = let x : Crossing = crossing l (EndEntityStart d s k i n b) in grown (ltb (x .code) 2) (l .enrolments) (record { board = d; bytes = x .state })
 
 -- only a close closes
 pub still-open : (i n : List ℕ) (l : LentWorld) (c : LentCall) → (IsClose i c → ⊥) → (ClosedBytes i n (l .past) → ⊥) → ClosedBytes i n (lentStep l c .past) → ⊥
@@ -90,23 +86,23 @@ open-slot (inr x) d = x
 
 module _ (s : List ℕ) (e : length s ≡ tableBytes) (accept : ℕ) (confirm : List ℕ) where
   abbrev l₁ : LentWorld
-  l₁ = lentStep (lentBeginning s) (LentStart board (zeros enrolmentBytes) 0 (replicate 16 17) (replicate 16 1) (zeros endEntityAnswerBytes))
+  l₁ = lentStep (lentBeginning s) (EndEntityStart board (zeros enrolmentBytes) 0 (replicate 16 17) (replicate 16 1) (zeros endEntityAnswerBytes))
 
   started : length (l₁ .enrolments) ≡ 1
   unfolding lentStep startCrossing endEntityStart unpack16
   started = refl
 
   abbrev l₂ : LentWorld
-  l₂ = lentStep l₁ (LentToRegistrar irBytes 1 5 (replicate 16 2) (zeros registrarAnswerBytes))
+  l₂ = lentStep l₁ (AtRegistrar (RegistrarMessage irBytes 1 5 (replicate 16 2)) (zeros registrarAnswerBytes))
 
   abbrev l₃ : LentWorld
-  l₃ = lentStep l₂ (LentIssue (replicate 16 17) (replicate 16 3) (replicate 32 171) (zeros registrarAnswerBytes))
+  l₃ = lentStep l₂ (AtRegistrar (RegistrarIssue (replicate 16 17) (replicate 16 3) (replicate 32 171)) (zeros registrarAnswerBytes))
 
   abbrev l₄ : LentWorld
-  l₄ = lentStep l₃ (LentToEndEntity 0 ipBytes 1 accept (replicate 32 171) (replicate 16 4) (zeros endEntityAnswerBytes))
+  l₄ = lentStep l₃ (AtEndEntity 0 (EndEntityMessage ipBytes 1 accept (replicate 32 171) (replicate 16 4)) (zeros endEntityAnswerBytes))
 
   abbrev l₅ : LentWorld
-  l₅ = lentStep l₄ (LentToRegistrar confirm 1 5 (replicate 16 5) (zeros registrarAnswerBytes))
+  l₅ = lentStep l₄ (AtRegistrar (RegistrarMessage confirm 1 5 (replicate 16 5)) (zeros registrarAnswerBytes))
 
   abbrev l₆ : LentWorld
   l₆ = lentAfter (lentBeginning s) (lentEnrols accept confirm)
@@ -116,8 +112,8 @@ module _ (s : List ℕ) (e : length s ≡ tableBytes) (accept : ℕ) (confirm : 
       omega (
         arith,
         started,
-        stays l₁ (LentToRegistrar irBytes 1 5 (replicate 16 2) (zeros registrarAnswerBytes)),
-        stays l₂ (LentIssue (replicate 16 17) (replicate 16 3) (replicate 32 171) (zeros registrarAnswerBytes)),
+        stays l₁ (AtRegistrar (RegistrarMessage irBytes 1 5 (replicate 16 2)) (zeros registrarAnswerBytes)),
+        stays l₂ (AtRegistrar (RegistrarIssue (replicate 16 17) (replicate 16 3) (replicate 32 171)) (zeros registrarAnswerBytes)),
       )
 
   there₅ : 0 < length (l₅ .enrolments)
@@ -125,13 +121,13 @@ module _ (s : List ℕ) (e : length s ≡ tableBytes) (accept : ℕ) (confirm : 
       omega (
         arith,
         there₃,
-        stays l₃ (LentToEndEntity 0 ipBytes 1 accept (replicate 32 171) (replicate 16 4) (zeros endEntityAnswerBytes)),
-        stays l₄ (LentToRegistrar confirm 1 5 (replicate 16 5) (zeros registrarAnswerBytes)),
+        stays l₃ (AtEndEntity 0 (EndEntityMessage ipBytes 1 accept (replicate 32 171) (replicate 16 4)) (zeros endEntityAnswerBytes)),
+        stays l₄ (AtRegistrar (RegistrarMessage confirm 1 5 (replicate 16 5)) (zeros registrarAnswerBytes)),
       )
 
   there₆ : 0 < length (l₆ .enrolments)
   unfolding lentAfter
-  there₆ = omega (arith, there₅, stays l₅ (LentToEndEntity 0 pkiConfBytes 1 accept (replicate 32 171) (replicate 16 6) (zeros endEntityAnswerBytes)))
+  there₆ = omega (arith, there₅, stays l₅ (AtEndEntity 0 (EndEntityMessage pkiConfBytes 1 accept (replicate 32 171) (replicate 16 6)) (zeros endEntityAnswerBytes)))
 
   fit : AllFit (lentBeginning s) (lentEnrols accept confirm)
   fit = (
@@ -139,13 +135,13 @@ module _ (s : List ℕ) (e : length s ≡ tableBytes) (accept : ℕ) (confirm : 
     (
       (refl, omega arith),
       (
-        (refl, refl, refl, omega arith),
+        ((refl, refl, refl), omega arith),
         (
-          (there₃, refl, refl, omega arith),
+          (there₃, (refl, refl), omega arith),
           (
             (refl, omega arith),
             (
-              (there₅, refl, refl, omega arith),
+              (there₅, (refl, refl), omega arith),
               tt,
             ),
           ),
@@ -165,7 +161,7 @@ module _ (s : List ℕ) (e : length s ≡ tableBytes) (accept : ℕ) (confirm : 
   not-closed : (i n : List ℕ) → ClosedBytes i n (l₆ .past) → ⊥
   unfolding lentAfter
   not-closed i n =
-      still-open i n l₅ _ (λ h. h) (still-open i n l₄ _ (λ h. h) (still-open i n l₃ _ (λ h. h) (still-open i n l₂ _ (λ h. h) (still-open i n l₁ _ (λ h. h) (still-open i n (lentBeginning s) _ (λ h. h) (λ h. h))))))
+      still-open i n l₅ _ (λ h. h) (still-open i n l₄ _ none-some (still-open i n l₃ _ (λ h. h) (still-open i n l₂ _ none-some (still-open i n l₁ _ none-some (still-open i n (lentBeginning s) _ (λ h. h) (λ h. h))))))
 
   module _ (b : EnrolmentState) (r : TransactionState) (ends-in : EndsIn (enrols (yes accept) confirm) b r) where
     fair : FairBytes (l₆ .past)

@@ -17,7 +17,8 @@ use Rattle.packed.specs.Bytes.{AllBytes}
 use Rattle.packed.specs.Table.{tableBytes}
 use Rattle.duskstall.specs.Boundary.{Crossing}
 use Rattle.duskstall.specs.Calls.{registrarInput}
-use Rattle.lent.specs.Lent.{LentCall, LentToRegistrar, LentWorld, crossing, isMade, lentAfter, lentBeginning}
+use Rattle.lent.specs.Calls.{RegistrarMessage}
+use Rattle.lent.specs.Lent.{LentCall, AtRegistrar, LentWorld, crossing, isMade, lentAfter, lentBeginning}
 use Rattle.lent.specs.Reads.{registrarRead, tableIn}
 
 -- a confirmation m, in these bytes, on the table t that the bytes s stand for; the call ended in x
@@ -37,11 +38,11 @@ pub record BytesConfirmed (t : TransactionTable) (d : RegistrarInput) (bytes : L
 abbrev pub ConfirmsBytes : LentWorld → Type 0
 ConfirmsBytes w =
     (bytes : List ℕ) (good board : ℕ) (nonce answer : List ℕ)
-    → isMade (crossing w (LentToRegistrar bytes good board nonce answer) .code) ≡ true
+    → isMade (crossing w (AtRegistrar (RegistrarMessage bytes good board nonce) answer) .code) ≡ true
     → (m : Message)
     → readingOf bytes ≡ read.Clean m
     → m .contents .kind ≡ 24
-    → BytesConfirmed (tableIn w) (registrarInput good board nonce) bytes m (w .table) (crossing w (LentToRegistrar bytes good board nonce answer))
+    → BytesConfirmed (tableIn w) (registrarInput good board nonce) bytes m (w .table) (crossing w (AtRegistrar (RegistrarMessage bytes good board nonce) answer))
 
 -- whatever is lent
 abbrev pub LentConfirmation : Type 0

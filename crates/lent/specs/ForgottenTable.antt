@@ -3,19 +3,20 @@ use Prim.Native.Nat.{ℕ}
 use mathlib.Core.List.{List, [], _∷_, _++_}
 use mathlib.Core.Option.{some}
 use mathlib.Core.Path.{_≡_}
-use lib.ListN.{length, getElem?}
+use lib.ListN.{getElem?}
 use Rattle.protocol.specs.Bytes.{zeros}
 use Rattle.protocol.specs.Table.{emptyTable}
 use Rattle.packed.specs.Answer.{registrarAnswerBytes}
 use Rattle.packed.specs.Table.{tableBytes, packTable}
-use Rattle.lent.specs.Lent.{LentCall, LentLapse, LentEnrolment, crossing, lentAfter, lentBeginning}
+use Rattle.lent.specs.Calls.{RegistrarLapse}
+use Rattle.lent.specs.Lent.{LentCall, AtRegistrar, LentEnrolment, crossing, lentAfter, lentBeginning}
 use Rattle.lent.specs.Places.{enrolmentState}
 use Rattle.lent.specs.Header.{IsClose, FairBytes, HeaderAgreement}
 use Rattle.lent.specs.OtherBytes.{HostCall, lentBy, hostAfter, asLeft}
 
 -- a lapse for an id that no transaction has, and the bytes of an empty table: those that the first call was lent
 abbrev pub forgetful : HostCall
-forgetful = record { call = LentLapse (zeros 16) (zeros registrarAnswerBytes); state = packTable emptyTable }
+forgetful = record { call = AtRegistrar (RegistrarLapse (zeros 16)) (zeros registrarAnswerBytes); state = packTable emptyTable }
 
 -- the premises of demand 3 hold after these calls, and its claim does not
 pub record Disagrees (s : List ℕ) (hs : List HostCall) : Type 0 where

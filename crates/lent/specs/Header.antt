@@ -15,7 +15,8 @@ use Rattle.protocol.specs.Table.{capacity}
 use Rattle.protocol.specs.Run.{End, TheRegistrar, OneBoard}
 use Rattle.protocol.specs.Agreement.{PartIs, HasPart, Fair}
 use Rattle.packed.specs.Table.{tableBytes}
-use Rattle.lent.specs.Lent.{LentCall, LentStart, LentToRegistrar, LentToEndEntity, LentIssue, LentRefuse, LentLapse, LentClose, LentTimeOut, LentEnrolment, LentEvent, LentWorld, isMade, lentAfter, lentBeginning, worldOf}
+use Rattle.lent.specs.Calls.{RegistrarCall, RegistrarMessage, RegistrarIssue, RegistrarRefuse, RegistrarLapse, RegistrarClose, EndEntityCall, EndEntityMessage, EndEntityTimeOut, closing}
+use Rattle.lent.specs.Lent.{LentCall, AtRegistrar, AtEndEntity, EndEntityStart, LentEnrolment, LentEvent, LentWorld, isMade, lentAfter, lentBeginning, worldOf}
 use Rattle.lent.specs.Places.{transactionId, transactionBoard, transactionSent, transactionHash, transactionState, enrolmentId, enrolmentHash, enrolmentState, outgoingKind, outgoingId, outgoingSenderNonce, outgoingHasRecipNonce, outgoingRecipNonce, outgoingHasStatus, outgoingStatus, outgoingHash, outgoingIn, sendsIn}
 
 -- ## What was done
@@ -31,24 +32,14 @@ Sent p P = SomeMade (λ e. (e .end ≡ p) × (sendsIn e ≡ 1) × P (outgoingIn 
 
 -- a start with this id, a close for this id
 abbrev pub IsStart : List ℕ → LentCall → Type 0
-IsStart i (LentStart b s k j n a) = j ≡ i
-IsStart i (LentToRegistrar bytes g b n a) = ⊥
-IsStart i (LentToEndEntity k bytes g c h n a) = ⊥
-IsStart i (LentIssue j n h a) = ⊥
-IsStart i (LentRefuse j n a) = ⊥
-IsStart i (LentLapse j a) = ⊥
-IsStart i (LentClose j a) = ⊥
-IsStart i (LentTimeOut k a) = ⊥
+IsStart i (AtRegistrar c a) = ⊥
+IsStart i (AtEndEntity k c a) = ⊥
+IsStart i (EndEntityStart b s k j n a) = j ≡ i
 
 abbrev pub IsClose : List ℕ → LentCall → Type 0
-IsClose i (LentStart b s k j n a) = ⊥
-IsClose i (LentToRegistrar bytes g b n a) = ⊥
-IsClose i (LentToEndEntity k bytes g c h n a) = ⊥
-IsClose i (LentIssue j n h a) = ⊥
-IsClose i (LentRefuse j n a) = ⊥
-IsClose i (LentLapse j a) = ⊥
-IsClose i (LentClose j a) = j ≡ i
-IsClose i (LentTimeOut k a) = ⊥
+IsClose i (AtRegistrar c a) = closing c ≡ some i
+IsClose i (AtEndEntity k c a) = ⊥
+IsClose i (EndEntityStart b s k j n a) = ⊥
 
 -- it was made and not refused: the number returned is below 2
 abbrev pub Taken : LentEvent → Type 0
@@ -75,15 +66,21 @@ IssuedBytes p bytes (read.Refused f) past = Unit {0}
 IssuedBytes p bytes (read.Clean m) past = Sent p (CarriesBytes bytes m) past
 
 -- "a good verdict is given only for messages the named sender issued": good is 1
+abbrev pub GoodAtRegistrar : RegistrarCall → List LentEvent → Type 0
+GoodAtRegistrar (RegistrarMessage bytes g b n) past = g ≡ 1 → IssuedBytes (OneBoard (record { 0 = b })) bytes (readingOf bytes) past
+GoodAtRegistrar (RegistrarIssue i n h) past = Unit {0}
+GoodAtRegistrar (RegistrarRefuse i n) past = Unit {0}
+GoodAtRegistrar (RegistrarLapse i) past = Unit {0}
+GoodAtRegistrar (RegistrarClose i) past = Unit {0}
+
+abbrev pub GoodAtEndEntity : EndEntityCall → List LentEvent → Type 0
+GoodAtEndEntity (EndEntityMessage bytes g a h n) past = g ≡ 1 → IssuedBytes TheRegistrar bytes (readingOf bytes) past
+GoodAtEndEntity EndEntityTimeOut past = Unit {0}
+
 abbrev pub GoodIssued : LentCall → List LentEvent → Type 0
-GoodIssued (LentStart b s k i n a) past = Unit {0}
-GoodIssued (LentToRegistrar bytes g b n a) past = g ≡ 1 → IssuedBytes (OneBoard (record { 0 = b })) bytes (readingOf bytes) past
-GoodIssued (LentToEndEntity k bytes g c h n a) past = g ≡ 1 → IssuedBytes TheRegistrar bytes (readingOf bytes) past
-GoodIssued (LentIssue i n h a) past = Unit {0}
-GoodIssued (LentRefuse i n a) past = Unit {0}
-GoodIssued (LentLapse i a) past = Unit {0}
-GoodIssued (LentClose i a) past = Unit {0}
-GoodIssued (LentTimeOut k a) past = Unit {0}
+GoodIssued (AtRegistrar c a) past = GoodAtRegistrar c past
+GoodIssued (AtEndEntity k c a) past = GoodAtEndEntity c past
+GoodIssued (EndEntityStart b s k i n a) past = Unit {0}
 
 -- of one call that was made, after those of the list
 pub record FairBytesEvent (e : LentEvent) (past : List LentEvent) : Type 0 where

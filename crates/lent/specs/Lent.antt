@@ -8,42 +8,34 @@ use lib.ListN.{length, drop, getElem?, set}
 use lib.Dec.{ltb}
 use Rattle.protocol.specs.declared.Board.{Board}
 use Rattle.protocol.specs.declared.TransactionId.{TransactionId}
+use Rattle.protocol.specs.declared.Outcome.{Outcome}
 use Rattle.protocol.specs.declared.Outgoing.{Outgoing}
 use Rattle.protocol.specs.Table.{emptyTable}
-use Rattle.protocol.specs.Run.{Call, Start, ToRegistrar, ToEndEntity, Issue, Refuse, Lapse, Close, TimeOut, End, TheRegistrar, OneBoard, Event, World, BoardEnrolment, unlessRefused, sentBy, run}
+use Rattle.protocol.specs.Run.{Call, Start, End, TheRegistrar, OneBoard, Event, World, BoardEnrolment, unlessRefused, sentBy, run}
 use Rattle.protocol.specs.Agreement.{Fair, Agreement}
 use Rattle.packed.specs.Bytes.{flagAt}
 use Rattle.packed.specs.Outgoing.{outgoingOf}
+use Rattle.packed.specs.Answer.{outcomeOf}
 use Rattle.packed.specs.Table.{tableBytes, unpackTable, packTableIn}
 use Rattle.packed.specs.Enrolment.{unpackEnrolment}
-use Rattle.packed.specs.Answer.{outcomeOf}
 use Rattle.duskstall.specs.Boundary.{Crossing}
-use Rattle.duskstall.specs.Calls.{idOf, nonceOf, hashOf, registrarInput, endEntityInput, registrarMessageCrossing, issueCrossing, refuseCrossing, lapseCrossing, closeCrossing, endEntityStartCrossing, endEntityMessageCrossing, timeOutCrossing}
+use Rattle.duskstall.specs.Calls.{idOf, nonceOf, endEntityStartCrossing}
+use Rattle.lent.specs.Calls.{RegistrarCall, EndEntityCall, registrarCrosses, endEntityCrosses, registrarStep, endEntityStep, closing}
 
 -- ## Calls
 
--- one for each exported call of the two ends, with any bytes for the arrays and any numbers. The table, and the enrolment at a place in the
--- order of the starts, are lent as the last call left them
+-- with any bytes for the answer. The table, and the enrolment at a place in the order of the starts, are lent as the last call left them; a start
+-- names its board and is lent bytes of its own
 pub data LentCall : Type 0 where
-  LentStart : Board → (enrolment : List ℕ) → (kind : ℕ) → (id nonce answer : List ℕ) → LentCall
-  LentToRegistrar : (bytes : List ℕ) → (good board : ℕ) → (nonce answer : List ℕ) → LentCall
-  LentToEndEntity : (place : ℕ) → (bytes : List ℕ) → (good accept : ℕ) → (hash nonce answer : List ℕ) → LentCall
-  LentIssue : (id nonce hash answer : List ℕ) → LentCall
-  LentRefuse : (id nonce answer : List ℕ) → LentCall
-  LentLapse : (id answer : List ℕ) → LentCall
-  LentClose : (id answer : List ℕ) → LentCall
-  LentTimeOut : (place : ℕ) → (answer : List ℕ) → LentCall
+  AtRegistrar : RegistrarCall → (answer : List ℕ) → LentCall
+  AtEndEntity : (place : ℕ) → EndEntityCall → (answer : List ℕ) → LentCall
+  EndEntityStart : Board → (enrolment : List ℕ) → (kind : ℕ) → (id nonce answer : List ℕ) → LentCall
 
 -- the call on values that it stands for
 abbrev pub callOf : LentCall → Call
-callOf (LentStart b s k i n a) = Start b k (idOf i) (nonceOf n)
-callOf (LentToRegistrar bytes g b n a) = ToRegistrar bytes (registrarInput g b n)
-callOf (LentToEndEntity k bytes g c h n a) = ToEndEntity k bytes (endEntityInput g c h n)
-callOf (LentIssue i n h a) = Issue (idOf i) (hashOf h) (nonceOf n)
-callOf (LentRefuse i n a) = Refuse (idOf i) (nonceOf n)
-callOf (LentLapse i a) = Lapse (idOf i)
-callOf (LentClose i a) = Close (idOf i)
-callOf (LentTimeOut k a) = TimeOut k
+callOf (AtRegistrar c a) = registrarStep c
+callOf (AtEndEntity k c a) = endEntityStep k c
+callOf (EndEntityStart b s k i n a) = Start b k (idOf i) (nonceOf n)
 
 -- ## The world of bytes
 
@@ -73,16 +65,11 @@ abbrev pub bytesOf : Option LentEnrolment → List ℕ
 bytesOf none = []
 bytesOf (some e) = e .bytes
 
--- what the call returns and leaves in the lent bytes: the exported functions' contracts
+-- what the call returns and leaves in the lent bytes
 abbrev pub crossing : LentWorld → LentCall → Crossing
-crossing w (LentStart b s k i n a) = endEntityStartCrossing k i n s a
-crossing w (LentToRegistrar bytes g b n a) = registrarMessageCrossing bytes g b n (w .table) a
-crossing w (LentToEndEntity k bytes g c h n a) = endEntityMessageCrossing bytes g c h n (bytesOf (getElem? (w .enrolments) k)) a
-crossing w (LentIssue i n h a) = issueCrossing i n h (w .table) a
-crossing w (LentRefuse i n a) = refuseCrossing i n (w .table) a
-crossing w (LentLapse i a) = lapseCrossing i (w .table) a
-crossing w (LentClose i a) = closeCrossing i (w .table) a
-crossing w (LentTimeOut k a) = timeOutCrossing (bytesOf (getElem? (w .enrolments) k)) a
+crossing w (AtRegistrar c a) = registrarCrosses c (w .table) a
+crossing w (AtEndEntity k c a) = endEntityCrosses c (bytesOf (getElem? (w .enrolments) k)) a
+crossing w (EndEntityStart b s k i n a) = endEntityStartCrossing k i n s a
 
 abbrev pub registrarLent : LentWorld → LentCall → Crossing → LentWorld
 registrarLent w c x =
@@ -100,14 +87,9 @@ enrolmentLent w c k none x = boardLent w c TheRegistrar (w .enrolments) x
 enrolmentLent w c k (some e) x = boardLent w c (OneBoard (e .board)) (set (w .enrolments) k (record { board = e .board; bytes = x .state })) x
 
 unfoldable pub lentStep : LentWorld → LentCall → LentWorld
-lentStep w (LentStart b s k i n a) = startLent w (LentStart b s k i n a) b (crossing w (LentStart b s k i n a))
-lentStep w (LentToRegistrar bytes g b n a) = registrarLent w (LentToRegistrar bytes g b n a) (crossing w (LentToRegistrar bytes g b n a))
-lentStep w (LentToEndEntity k bytes g c h n a) = enrolmentLent w (LentToEndEntity k bytes g c h n a) k (getElem? (w .enrolments) k) (crossing w (LentToEndEntity k bytes g c h n a))
-lentStep w (LentIssue i n h a) = registrarLent w (LentIssue i n h a) (crossing w (LentIssue i n h a))
-lentStep w (LentRefuse i n a) = registrarLent w (LentRefuse i n a) (crossing w (LentRefuse i n a))
-lentStep w (LentLapse i a) = registrarLent w (LentLapse i a) (crossing w (LentLapse i a))
-lentStep w (LentClose i a) = registrarLent w (LentClose i a) (crossing w (LentClose i a))
-lentStep w (LentTimeOut k a) = enrolmentLent w (LentTimeOut k a) k (getElem? (w .enrolments) k) (crossing w (LentTimeOut k a))
+lentStep w (AtRegistrar c a) = registrarLent w (AtRegistrar c a) (crossing w (AtRegistrar c a))
+lentStep w (AtEndEntity k c a) = enrolmentLent w (AtEndEntity k c a) k (getElem? (w .enrolments) k) (crossing w (AtEndEntity k c a))
+lentStep w (EndEntityStart b s k i n a) = startLent w (EndEntityStart b s k i n a) b (crossing w (EndEntityStart b s k i n a))
 
 unfoldable pub lentAfter : LentWorld → List LentCall → LentWorld
 lentAfter w [] = w
@@ -131,34 +113,24 @@ unfoldable pub endEntitySent : List ℕ → Option Outgoing
 endEntitySent s = sentBy (flagAt 13 s) (outgoingOf (drop 14 s))
 
 abbrev pub sentOf : LentCall → List ℕ → Option Outgoing
-sentOf (LentStart b s k i n a) x = endEntitySent x
-sentOf (LentToRegistrar bytes g b n a) x = registrarSent x
-sentOf (LentToEndEntity k bytes g c h n a) x = endEntitySent x
-sentOf (LentIssue i n h a) x = registrarSent x
-sentOf (LentRefuse i n a) x = registrarSent x
-sentOf (LentLapse i a) x = registrarSent x
-sentOf (LentClose i a) x = registrarSent x
-sentOf (LentTimeOut k a) x = endEntitySent x
+sentOf (AtRegistrar c a) x = registrarSent x
+sentOf (AtEndEntity k c a) x = endEntitySent x
+sentOf (EndEntityStart b s k i n a) x = endEntitySent x
 
+-- the id that a start took, that a close freed
 abbrev pub drawnOf : LentCall → List ℕ → Option TransactionId
-drawnOf (LentStart b s k i n a) x = unlessRefused (outcomeOf x) (idOf i)
-drawnOf (LentToRegistrar bytes g b n a) x = none
-drawnOf (LentToEndEntity k bytes g c h n a) x = none
-drawnOf (LentIssue i n h a) x = none
-drawnOf (LentRefuse i n a) x = none
-drawnOf (LentLapse i a) x = none
-drawnOf (LentClose i a) x = none
-drawnOf (LentTimeOut k a) x = none
+drawnOf (AtRegistrar c a) x = none
+drawnOf (AtEndEntity k c a) x = none
+drawnOf (EndEntityStart b s k i n a) x = unlessRefused (outcomeOf x) (idOf i)
+
+abbrev pub closedBy : Option (List ℕ) → Outcome → Option TransactionId
+closedBy none o = none
+closedBy (some i) o = unlessRefused o (idOf i)
 
 abbrev pub closedOf : LentCall → List ℕ → Option TransactionId
-closedOf (LentStart b s k i n a) x = none
-closedOf (LentToRegistrar bytes g b n a) x = none
-closedOf (LentToEndEntity k bytes g c h n a) x = none
-closedOf (LentIssue i n h a) x = none
-closedOf (LentRefuse i n a) x = none
-closedOf (LentLapse i a) x = none
-closedOf (LentClose i a) x = unlessRefused (outcomeOf x) (idOf i)
-closedOf (LentTimeOut k a) x = none
+closedOf (AtRegistrar c a) x = closedBy (closing c) (outcomeOf x)
+closedOf (AtEndEntity k c a) x = none
+closedOf (EndEntityStart b s k i n a) x = none
 
 abbrev pub eventOf : LentEvent → Event
 eventOf e =

@@ -1,3 +1,4 @@
+pub mod Calls
 pub mod ConfirmationBytes
 pub mod ForgottenTable
 pub mod Header

@@ -9,7 +9,7 @@ use lib.ListN.{length, getElem?, set}
 use Rattle.packed.specs.Bytes.{AllBytes}
 use Rattle.packed.specs.Table.{tableBytes}
 use Rattle.duskstall.specs.Boundary.{Crossing}
-use Rattle.lent.specs.Lent.{LentCall, LentStart, LentToRegistrar, LentToEndEntity, LentIssue, LentRefuse, LentLapse, LentClose, LentTimeOut, LentEnrolment, LentWorld, crossing, isMade, lentStep, lentAfter, lentBeginning}
+use Rattle.lent.specs.Lent.{LentCall, AtRegistrar, AtEndEntity, EndEntityStart, LentEnrolment, LentWorld, crossing, isMade, lentStep, lentAfter, lentBeginning}
 use Rattle.lent.specs.Kept.{LentPromise, stateLent}
 use Rattle.lent.specs.Reads.{ReadsBack}
 use Rattle.lent.specs.Header.{FairBytes, HeaderAgreement}
@@ -23,14 +23,9 @@ pub data StatePlace : Type 0 where
   InEnrolment : (place : ℕ) → StatePlace
 
 abbrev pub placeOf : LentCall → StatePlace
-placeOf (LentStart b s k i n a) = InCall
-placeOf (LentToRegistrar bytes g b n a) = InTable
-placeOf (LentToEndEntity k bytes g c h n a) = InEnrolment k
-placeOf (LentIssue i n h a) = InTable
-placeOf (LentRefuse i n a) = InTable
-placeOf (LentLapse i a) = InTable
-placeOf (LentClose i a) = InTable
-placeOf (LentTimeOut k a) = InEnrolment k
+placeOf (AtRegistrar c a) = InTable
+placeOf (AtEndEntity k c a) = InEnrolment k
+placeOf (EndEntityStart b s k i n a) = InCall
 
 -- the enrolment at a place, if one is there, has these bytes
 abbrev pub withBytes : List LentEnrolment → ℕ → Option LentEnrolment → List ℕ → List LentEnrolment

@@ -8,15 +8,15 @@ use Rattle.protocol.specs.declared.TransactionTable.{TransactionTable}
 use Rattle.protocol.specs.declared.Enrolment.{Enrolment}
 use Rattle.protocol.specs.declared.RegistrarAnswer.{RegistrarAnswer}
 use Rattle.protocol.specs.declared.EndEntityAnswer.{EndEntityAnswer}
-use Rattle.protocol.specs.Registrar.{registrarMessage, registrarIssue, registrarRefuse, registrarLapse, registrarClose}
-use Rattle.protocol.specs.EndEntity.{endEntityStart, endEntityMessage, endEntityTimeOut}
+use Rattle.protocol.specs.EndEntity.{endEntityStart}
 use Rattle.protocol.specs.Promises.{AtMostOne, AllUnsetZero}
+use Rattle.packed.specs.Answer.{registrarAnswerOf, endEntityAnswerOf}
 use Rattle.packed.specs.Table.{tableBytes, unpackTable}
 use Rattle.packed.specs.Enrolment.{unpackEnrolment}
-use Rattle.packed.specs.Answer.{registrarAnswerOf, endEntityAnswerOf}
 use Rattle.duskstall.specs.Boundary.{Crossing}
-use Rattle.duskstall.specs.Calls.{idOf, nonceOf, hashOf, registrarInput, endEntityInput}
-use Rattle.lent.specs.Lent.{LentCall, LentStart, LentToRegistrar, LentToEndEntity, LentIssue, LentRefuse, LentLapse, LentClose, LentTimeOut, LentWorld, bytesOf, crossing, isMade, lentAfter, lentBeginning}
+use Rattle.duskstall.specs.Calls.{idOf, nonceOf}
+use Rattle.lent.specs.Calls.{registrarAnswers, endEntityAnswers}
+use Rattle.lent.specs.Lent.{LentCall, AtRegistrar, AtEndEntity, EndEntityStart, LentWorld, bytesOf, crossing, isMade, lentAfter, lentBeginning}
 use Rattle.lent.specs.Kept.{LentPromise}
 
 abbrev pub registrarRead : Crossing → RegistrarAnswer
@@ -31,15 +31,12 @@ tableIn w = unpackTable (w .table) .table
 abbrev pub enrolmentIn : LentWorld → ℕ → Enrolment
 enrolmentIn w k = unpackEnrolment (bytesOf (getElem? (w .enrolments) k)) .enrolment
 
+-- a start that is refused leaves no enrolment to read
 abbrev pub ReadsBack : LentWorld → LentCall → Type 0
-ReadsBack w (LentStart b s k i n a) = crossing w (LentStart b s k i n a) .code ≡ 0 → endEntityRead (crossing w (LentStart b s k i n a)) ≡ endEntityStart k (idOf i) (nonceOf n)
-ReadsBack w (LentToRegistrar bytes g b n a) = registrarRead (crossing w (LentToRegistrar bytes g b n a)) ≡ registrarMessage (tableIn w) (registrarInput g b n) bytes
-ReadsBack w (LentToEndEntity k bytes g c h n a) = endEntityRead (crossing w (LentToEndEntity k bytes g c h n a)) ≡ endEntityMessage (enrolmentIn w k) (endEntityInput g c h n) bytes
-ReadsBack w (LentIssue i n h a) = registrarRead (crossing w (LentIssue i n h a)) ≡ registrarIssue (tableIn w) (idOf i) (nonceOf n) (hashOf h)
-ReadsBack w (LentRefuse i n a) = registrarRead (crossing w (LentRefuse i n a)) ≡ registrarRefuse (tableIn w) (idOf i) (nonceOf n)
-ReadsBack w (LentLapse i a) = registrarRead (crossing w (LentLapse i a)) ≡ registrarLapse (tableIn w) (idOf i)
-ReadsBack w (LentClose i a) = registrarRead (crossing w (LentClose i a)) ≡ registrarClose (tableIn w) (idOf i)
-ReadsBack w (LentTimeOut k a) = endEntityRead (crossing w (LentTimeOut k a)) ≡ endEntityTimeOut (enrolmentIn w k)
+ReadsBack w (AtRegistrar c a) = registrarRead (crossing w (AtRegistrar c a)) ≡ registrarAnswers c (tableIn w)
+ReadsBack w (AtEndEntity k c a) = endEntityRead (crossing w (AtEndEntity k c a)) ≡ endEntityAnswers c (enrolmentIn w k)
+ReadsBack w (EndEntityStart b s k i n a) =
+    crossing w (EndEntityStart b s k i n a) .code ≡ 0 → endEntityRead (crossing w (EndEntityStart b s k i n a)) ≡ endEntityStart k (idOf i) (nonceOf n)
 
 -- on any bytes at all
 abbrev pub LentReads : Type 0

@@ -7,8 +7,8 @@ use mathlib.Core.Logic.{_≢_}
 use lib.ListN.{length, getD}
 use Rattle.packed.specs.Bytes.{part, AllBytes}
 use Rattle.packed.specs.Table.{transactionBytes, tableBytes}
-use Rattle.lent.specs.Lent.{LentCall, LentWorld, crossing, isMade, lentAfter, lentBeginning}
-use Rattle.lent.specs.OtherBytes.{InTable, placeOf}
+use Rattle.lent.specs.Calls.{RegistrarCall, registrarCrosses}
+use Rattle.lent.specs.Lent.{LentCall, LentWorld, isMade, lentAfter, lentBeginning}
 
 -- the bytes of a slot
 abbrev pub slotBytes : (slot : ℕ) → (table : List ℕ) → List ℕ
@@ -20,12 +20,11 @@ answerSlot b = getD b 13 0
 
 abbrev pub OnlyItsSlot : LentWorld → Type 0
 OnlyItsSlot w =
-    (c : LentCall)
-    → placeOf c ≡ InTable
-    → isMade (crossing w c .code) ≡ true
+    (c : RegistrarCall) (b : List ℕ)
+    → isMade (registrarCrosses c (w .table) b .code) ≡ true
     → (p : ℕ)
-    → p ≢ answerSlot (crossing w c .answer)
-    → slotBytes p (crossing w c .state) ≡ slotBytes p (w .table)
+    → p ≢ answerSlot (registrarCrosses c (w .table) b .answer)
+    → slotBytes p (registrarCrosses c (w .table) b .state) ≡ slotBytes p (w .table)
 
 -- whatever is lent
 abbrev pub LentSlots : Type 0

@@ -1,6 +1,6 @@
 -- Packing and unpacking an enrolment are inverse to each other.
-use Prim.Native.Nat.{ℕ, zero, suc, _+_, _<_, _≤_}
-use mathlib.Core.List.{List, [], _∷_, _++_}
+use Prim.Native.Nat.{ℕ, zero, suc, _<_, _≤_}
+use mathlib.Core.List.{List, [], _∷_}
 use mathlib.Core.Bool.{true}
 use mathlib.Core.Path.{_≡_, refl, _∙_}
 use native.Mathlib.Omega.{arith}
@@ -12,7 +12,6 @@ use Rattle.protocol.specs.declared.Enrolment.{Enrolment}
 use Rattle.protocol.specs.declared.EnrolmentState.{EnrolmentState}
 use Rattle.protocol.specs.declared.EnrolmentState.the-variants.{Asked, Confirming, Declining, Sure, Declined, Failed, Unsettled}
 use Rattle.packed.specs.declared.enrolment.UnpackedEnrolment.{UnpackedEnrolment}
-use Rattle.packed.specs.Bytes.{part}
 use Rattle.packed.specs.Enrolment.{stateNumber, stateOf, enrolmentBytes, packEnrolment, enrolmentOf, unpackEnrolment, Sized}
 use Rattle.packed.proofs.Tests.{both}
 use Rattle.packed.proofs.Parts.{part-length, join, one}

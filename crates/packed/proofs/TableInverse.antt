@@ -15,7 +15,7 @@ use Rattle.protocol.specs.declared.TransactionState.the-variants.{Free, Asked, 
 use Rattle.protocol.specs.declared.TransactionTable.{TransactionTable}
 use Rattle.protocol.specs.Table.{capacity}
 use Rattle.packed.specs.declared.table.UnpackedTable.{UnpackedTable}
-use Rattle.packed.specs.Bytes.{part, twoBytes, AllBytes}
+use Rattle.packed.specs.Bytes.{twoBytes, AllBytes}
 use Rattle.packed.specs.Table.{stateNumber, stateOf, transactionBytes, packTransaction, transactionOf, tableBytes, packRows, rowsOf, statesGood, packTable, unpackTable, Sized, AllSized, TableSized}
 use Rattle.packed.proofs.Tests.{both}
 use Rattle.packed.proofs.Parts.{bytes-drop, part-length, join, one, two}
@@ -90,7 +90,7 @@ module _ (t : Transaction) (z : Sized t) (rest : List ℕ) where
         of-number (t .state),
       )
 
-packed-length : (t : Transaction) → Sized t → length (packTransaction t) ≡ transactionBytes
+pub packed-length : (t : Transaction) → Sized t → length (packTransaction t) ≡ transactionBytes
 unfolding packTransaction
 packed-length t z = simp length-append (omega (arith, z .id, z .taken, z .sent, z .hash))
 
