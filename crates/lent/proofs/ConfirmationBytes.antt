@@ -36,7 +36,8 @@ use Rattle.lent.proofs.ReadBack.{lent-reads, lent-sound}
 
 -- ## What is returned
 
-registrar-code : (p : Bool) (f : TransactionTable → RegistrarAnswer) (s b : List ℕ) → isMade (registrarCrossing p f s b .code) ≡ true → registrarCrossing p f s b .code ≡ outcomeNumber (f (unpackTable s .table) .outcome)
+registrar-code : (p : Bool) (f : TransactionTable → RegistrarAnswer) (s b : List ℕ) → isMade (registrarCrossing p f s b .code) ≡ true
+    → registrarCrossing p f s b .code ≡ outcomeNumber (f (unpackTable s .table) .outcome)
 unfolding registrarAnswered
 registrar-code p f s b = made-of (λ x. x .code ≡ outcomeNumber (f (unpackTable s .table) .outcome)) (unpackTable s .ok) p (leb registrarAnswerBytes (length b)) s b (registrarWritten (f (unpackTable s .table)) s b) (λ _ _ _. refl)
 
@@ -51,11 +52,13 @@ is-again outcome.Again e = refl
 is-again (outcome.Refused n f) e = absurd (omega arith)
 
 -- a confirmation that matches leads to a state
-status-leads : (m : Message) → (m .contents .entry .status ≡ 0) ⊎ (m .contents .entry .status ≡ 2) → m .contents .entry .«has_status» ≡ true → (v : TransactionState) × LeadsTo m v
+status-leads : (m : Message) → (m .contents .entry .status ≡ 0) ⊎ (m .contents .entry .status ≡ 2) → m .contents .entry .«has_status» ≡ true
+    → (v : TransactionState) × LeadsTo m v
 status-leads m (inl e) h = (Confirmed, inl (refl, inr e))
 status-leads m (inr e) h = (Declined, inr (refl, h, e))
 
-leads : (m : Message) (b : Bool) → m .contents .entry .«has_status» ≡ b → (b ≡ true → (m .contents .entry .status ≡ 0) ⊎ (m .contents .entry .status ≡ 2)) → (v : TransactionState) × LeadsTo m v
+leads : (m : Message) (b : Bool) → m .contents .entry .«has_status» ≡ b
+    → (b ≡ true → (m .contents .entry .status ≡ 0) ⊎ (m .contents .entry .status ≡ 2)) → (v : TransactionState) × LeadsTo m v
 leads m true h s = status-leads m (s refl) h
 leads m false h s = (Confirmed, inl (refl, inl h))
 

@@ -35,13 +35,15 @@ record Plain (p : Bool) (x : Crossing) : Type 0 where
   code : getD (x .answer) 0 0 ≡ x .code
   args : p ≡ true
 
-registrar-plain : (p : Bool) (f : TransactionTable → RegistrarAnswer) (s b : List ℕ) → ((t : TransactionTable) → TableSized t → RegistrarSized (f t)) → isMade (registrarCrossing p f s b .code) ≡ true → Plain p (registrarCrossing p f s b)
+registrar-plain : (p : Bool) (f : TransactionTable → RegistrarAnswer) (s b : List ℕ) → ((t : TransactionTable) → TableSized t → RegistrarSized (f t))
+    → isMade (registrarCrossing p f s b .code) ≡ true → Plain p (registrarCrossing p f s b)
 unfolding registrarAnswered
 registrar-plain p f s b sized =
     let a : RegistrarAnswer = f (unpackTable s .table) in
     made-of (Plain p) (unpackTable s .ok) p (leb registrarAnswerBytes (length b)) s b (registrarWritten a s b) (λ o q r. record { code = registrar-code-at a b (sized (unpackTable s .table) (table-sized s o) .outgoing) r; args = q })
 
-board-plain : (p : Bool) (f : Enrolment → EndEntityAnswer) (s b : List ℕ) → ((x : Enrolment) → Sized x → EndEntitySized (f x)) → isMade (endEntityCrossing p f s b .code) ≡ true → Plain p (endEntityCrossing p f s b)
+board-plain : (p : Bool) (f : Enrolment → EndEntityAnswer) (s b : List ℕ) → ((x : Enrolment) → Sized x → EndEntitySized (f x))
+    → isMade (endEntityCrossing p f s b .code) ≡ true → Plain p (endEntityCrossing p f s b)
 unfolding endEntityAnswered
 board-plain p f s b sized =
     let a : EndEntityAnswer = f (unpackEnrolment s .enrolment) in

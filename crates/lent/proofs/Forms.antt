@@ -52,7 +52,8 @@ and {a} {b} p q = rw (p, q)
 pub record RegistrarForm (c : RegistrarCall) : Type 0 where
   pub args : Bool
   pub crosses : (s b : List ℕ) → registrarCrosses c s b ≡ registrarCrossing args (registrarAnswers c) s b
-  pub steps : (w : World) → step w (registrarStep c) ≡ registrarDid w (registrarStep c) (closedBy (closing c) (registrarAnswers c (w .table) .outcome)) (registrarAnswers c (w .table))
+  pub steps : (w : World)
+      → step w (registrarStep c) ≡ registrarDid w (registrarStep c) (closedBy (closing c) (registrarAnswers c (w .table) .outcome)) (registrarAnswers c (w .table))
   pub promise : (t : TransactionTable) → RegistrarPromise (registrarRefusals c) t (registrarAnswers c t)
   pub sized : (t : TransactionTable) → TableSized t → RegistrarSized (registrarAnswers c t)
   pub closes : (i : List ℕ) → closing c ≡ some i → args ≡ true → length i ≡ 16

@@ -8,6 +8,7 @@ pub mod Kept
 pub mod Made
 pub mod OtherBytes
 pub mod Places
+pub mod Premises
 pub mod ReadBack
 pub mod RegistrarSizes
 pub mod Sizes

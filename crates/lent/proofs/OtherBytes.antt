@@ -88,7 +88,8 @@ every-list-as-left w cs =
 
 -- ## Any bytes
 
-with-there : (es : List LentEnrolment) (k : ℕ) (s : List ℕ) (e : LentEnrolment) → getElem? es k ≡ some e → getElem? (withBytes es k (getElem? es k) s) k ≡ some (record { board = e .board; bytes = s })
+with-there : (es : List LentEnrolment) (k : ℕ) (s : List ℕ) (e : LentEnrolment) → getElem? es k ≡ some e
+    → getElem? (withBytes es k (getElem? es k) s) k ≡ some (record { board = e .board; bytes = s })
 with-there es k s e h = subst (λ (o : Option LentEnrolment). getElem? (withBytes es k o s) k ≡ some (record { board = e .board; bytes = s })) (sym h) (set-there es k e _ h)
 
 with-none : (es : List LentEnrolment) (k : ℕ) (s : List ℕ) → getElem? es k ≡ none → getElem? (withBytes es k (getElem? es k) s) k ≡ none
@@ -107,7 +108,8 @@ module _ (v : LentWorld) (c : LentCall) (k : ℕ) (x : Crossing) where
   elsewhere-stays none p d = refl
   elsewhere-stays (some e) p d = set-elsewhere (v .enrolments) k p _ d
 
-  written-there : (e : LentEnrolment) → getElem? (v .enrolments) k ≡ some e → getElem? (enrolmentLent v c k (getElem? (v .enrolments) k) x .enrolments) k ≡ some (record { board = e .board; bytes = x .state })
+  written-there : (e : LentEnrolment) → getElem? (v .enrolments) k ≡ some e
+      → getElem? (enrolmentLent v c k (getElem? (v .enrolments) k) x .enrolments) k ≡ some (record { board = e .board; bytes = x .state })
   written-there e h = subst (λ (o : Option LentEnrolment). getElem? (enrolmentLent v c k o x .enrolments) k ≡ some (record { board = e .board; bytes = x .state })) (sym h) (set-there (v .enrolments) k e _ h)
 
   none-there : getElem? (v .enrolments) k ≡ none → getElem? (enrolmentLent v c k (getElem? (v .enrolments) k) x .enrolments) k ≡ none
@@ -118,7 +120,8 @@ module _ (w : LentWorld) (c : LentCall) (k : ℕ) (s : List ℕ) (x : Crossing) 
   abbrev lent : LentWorld
   lent = lendAt w (InEnrolment k) s
 
-  there : (o : Option LentEnrolment) → getElem? (w .enrolments) k ≡ o → getElem? (enrolmentLent lent c k (getElem? (lent .enrolments) k) x .enrolments) k ≡ rewritten o (x .state)
+  there : (o : Option LentEnrolment) → getElem? (w .enrolments) k ≡ o
+      → getElem? (enrolmentLent lent c k (getElem? (lent .enrolments) k) x .enrolments) k ≡ rewritten o (x .state)
   there none h = none-there lent c k x (with-none (w .enrolments) k s h)
   there (some e) h = written-there lent c k x (record { board = e .board; bytes = s }) (with-there (w .enrolments) k s e h)
 

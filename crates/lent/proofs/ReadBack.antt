@@ -35,7 +35,8 @@ use Rattle.packed.proofs.EnrolmentInverse.{enrolment-sized}
 use Rattle.lent.proofs.Kept.{promised}
 use Rattle.lent.proofs.Theorem.{stands}
 
-registrar-reads : (p : Bool) (f : TransactionTable → RegistrarAnswer) (s b : List ℕ) → ((t : TransactionTable) → TableSized t → RegistrarSized (f t)) → isMade (registrarCrossing p f s b .code) ≡ true → registrarRead (registrarCrossing p f s b) ≡ f (unpackTable s .table)
+registrar-reads : (p : Bool) (f : TransactionTable → RegistrarAnswer) (s b : List ℕ) → ((t : TransactionTable) → TableSized t → RegistrarSized (f t))
+    → isMade (registrarCrossing p f s b .code) ≡ true → registrarRead (registrarCrossing p f s b) ≡ f (unpackTable s .table)
 unfolding registrarAnswered
 registrar-reads p f s b sized m =
     let a : RegistrarAnswer = f (unpackTable s .table) in
@@ -45,7 +46,8 @@ registrar-reads p f s b sized m =
     registrar-back a b (z .outgoing) r (z .outcome) (z .slot) _ (ap (λ (u : UnpackedTable). u .table) (table-read (a .table) (z .table) (table-in s (a .table) o))))
     m
 
-board-reads : (p : Bool) (f : Enrolment → EndEntityAnswer) (s b : List ℕ) → ((x : Enrolment) → Sized x → EndEntitySized (f x)) → isMade (endEntityCrossing p f s b .code) ≡ true → endEntityRead (endEntityCrossing p f s b) ≡ f (unpackEnrolment s .enrolment)
+board-reads : (p : Bool) (f : Enrolment → EndEntityAnswer) (s b : List ℕ) → ((x : Enrolment) → Sized x → EndEntitySized (f x))
+    → isMade (endEntityCrossing p f s b .code) ≡ true → endEntityRead (endEntityCrossing p f s b) ≡ f (unpackEnrolment s .enrolment)
 unfolding endEntityAnswered
 board-reads p f s b sized m =
     let a : EndEntityAnswer = f (unpackEnrolment s .enrolment) in
@@ -55,11 +57,13 @@ board-reads p f s b sized m =
     end-entity-back a b (z .outgoing) r (z .outcome) _ (ap (λ (u : UnpackedEnrolment). u .enrolment) (enrolment-read (a .enrolment) (z .enrolment) (enrolment-in s (a .enrolment) o))))
     m
 
-start-state : (a : EndEntityAnswer) (s : List ℕ) → eqb (length s) enrolmentBytes ≡ true → outcomeNumber (a .outcome) ≡ 0 → cond (eqb (outcomeNumber (a .outcome)) 0) (packEnrolmentIn (a .enrolment) s) s ≡ packEnrolment (a .enrolment)
+start-state : (a : EndEntityAnswer) (s : List ℕ) → eqb (length s) enrolmentBytes ≡ true → outcomeNumber (a .outcome) ≡ 0
+    → cond (eqb (outcomeNumber (a .outcome)) 0) (packEnrolmentIn (a .enrolment) s) s ≡ packEnrolment (a .enrolment)
 unfolding packEnrolmentIn
 start-state a s o e = rw (eq-eqb _ _ e, o)
 
-start-reads : (p : Bool) (a : EndEntityAnswer) (s b : List ℕ) → EndEntitySized a → isMade (startCrossing p a s b .code) ≡ true → startCrossing p a s b .code ≡ 0 → endEntityRead (startCrossing p a s b) ≡ a
+start-reads : (p : Bool) (a : EndEntityAnswer) (s b : List ℕ) → EndEntitySized a → isMade (startCrossing p a s b .code) ≡ true
+    → startCrossing p a s b .code ≡ 0 → endEntityRead (startCrossing p a s b) ≡ a
 unfolding startCrossing
 start-reads p a s b z m =
     made-of (λ x. x .code ≡ 0 → endEntityRead x ≡ a) (eqb (length s) enrolmentBytes) p (leb endEntityAnswerBytes (length b)) s b (startWritten a s b)

@@ -47,7 +47,8 @@ module _ (t : TransactionTable) (z : TableSized t) where
   -- ## The host's steps
 
   module _ (i : TransactionId) (e : length (i .bytes) ≡ 16) where
-    host : (ok : Transaction → Bool) (g : Transaction → RegistrarAnswer) (f : Option Transaction) → lookup (t .transactions) i ≡ f → ((r : Transaction) → Sized r → RegistrarSized (g r)) → RegistrarSized (hostStep f t ok g)
+    host : (ok : Transaction → Bool) (g : Transaction → RegistrarAnswer) (f : Option Transaction) → lookup (t .transactions) i ≡ f
+        → ((r : Transaction) → Sized r → RegistrarSized (g r)) → RegistrarSized (hostStep f t ok g)
     host ok g none h s = record { table = z; outgoing = silent-sized; outcome = bit-back 30 false; slot = omega arith }
     host ok g (some r) h s =
         cases RegistrarSized (ok r) (g r) (refusedQuietly 31 t) (λ _. s r (lookup-sized (t .transactions) i (z .each) r h))
@@ -98,7 +99,8 @@ module _ (t : TransactionTable) (z : TableSized t) where
     unfolding registrarRows
     names m f c e l = let q : _ × _ = late _ _ _ _ (subst Late (sym e) l) in (sixteen (m .id) (q .0), sixteen (m .senderNonce) (q .1))
 
-    checked-sized : (m : Fields) (f : Option Transaction) → lookup (t .transactions) (asId (m .id)) ≡ f → (c : Check) → check (registrarRows (t .transactions) f (d .verdict) m) ≡ c → RegistrarSized (registrarChecked c f t d m)
+    checked-sized : (m : Fields) (f : Option Transaction) → lookup (t .transactions) (asId (m .id)) ≡ f → (c : Check)
+        → check (registrarRows (t .transactions) f (d .verdict) m) ≡ c → RegistrarSized (registrarChecked c f t d m)
     unfolding registrarChecked
     checked-sized m f h (stop k) e =
         record {

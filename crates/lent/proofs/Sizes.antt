@@ -1,12 +1,12 @@
 -- What the steps put into a table, an enrolment or an answer has its size: parts of a message that passed rows 4 and 5, bits, and rows.
-use Prim.Native.Nat.{ℕ, suc, _<_, _≤_}
+use Prim.Native.Nat.{ℕ, zero, suc, _<_, _≤_}
 use mathlib.Core.List.{List, [], _∷_}
 use mathlib.Core.Bool.{Bool, true, false, _&&_}
 use mathlib.Core.Option.{Option, none, some}
 use mathlib.Core.Path.{_≡_, refl, sym, _∙_, ap, subst}
 use native.Mathlib.Omega.{arith}
 use borrow.Author.Tests.{ltb-true, eqb-true, ne-eqb, not-false}
-use lib.ListN.{length}
+use lib.ListN.{length, replicate, length-replicate}
 use lib.Dec.{eqb, leb, ltb}
 use Rattle.der.proofs.Auto.{and-left, and-right}
 use Rattle.protocol.specs.declared.FailureInfo.{FailureInfo}
@@ -15,7 +15,7 @@ use Rattle.protocol.specs.declared.TransactionId.{TransactionId}
 use Rattle.protocol.specs.declared.Transaction.{Transaction}
 use Rattle.protocol.specs.declared.TransactionTable.{TransactionTable}
 use Rattle.protocol.specs.Bytes.{bytesOf}
-use Rattle.protocol.specs.Table.{lookup, slotOf, freeSlot, replace, put, isFor, isFree, freeTransaction, emptyTable}
+use Rattle.protocol.specs.Table.{capacity, lookup, slotOf, freeSlot, replace, put, isFor, isFree, freeTransaction, emptyTable}
 use Rattle.protocol.specs.Refusals.{NumberBit, bits, bitIn, bitOf, Row, row, Check, pass, stop, check, notSixteen}
 use Rattle.protocol.specs.Outgoing.{silent}
 use Rattle.protocol.proofs.Tests.{true-false, none-some, some-some, cases}
@@ -130,6 +130,10 @@ module _ (t : TransactionTable) (z : TableSized t) where
 pub free-sized : Sized freeTransaction
 free-sized = record { id = refl; taken = refl; sent = refl; hash = refl }
 
+replicate-sized : (n : ℕ) (x : Transaction) → Sized x → AllSized (replicate n x)
+replicate-sized zero x z = tt
+replicate-sized (suc n) x z = (z, replicate-sized n x z)
+
 pub empty-sized : TableSized emptyTable
 unfolding emptyTable
-empty-sized = record { slots = refl; each = (free-sized, (free-sized, (free-sized, (free-sized, (free-sized, (free-sized, (free-sized, (free-sized, (free-sized, (free-sized, (free-sized, (free-sized, (free-sized, (free-sized, (free-sized, (free-sized, tt)))))))))))))))) }
+empty-sized = record { slots = length-replicate capacity freeTransaction; each = replicate-sized capacity freeTransaction free-sized }

@@ -62,14 +62,16 @@ stand-at (e ∷ es) [] h k = absurd h
 stand-at (e ∷ es) (x ∷ xs) h zero = h .0
 stand-at (e ∷ es) (x ∷ xs) h (suc k) = stand-at es xs (h .1) k
 
-pub stand-set : (es : List LentEnrolment) (xs : List BoardEnrolment) → AllStand es xs → (k : ℕ) (e : LentEnrolment) (x : BoardEnrolment) → Stand e x → AllStand (set es k e) (set xs k x)
+pub stand-set : (es : List LentEnrolment) (xs : List BoardEnrolment) → AllStand es xs → (k : ℕ) (e : LentEnrolment) (x : BoardEnrolment) → Stand e x
+    → AllStand (set es k e) (set xs k x)
 stand-set [] [] h k e x s = tt
 stand-set [] (y ∷ xs) h k e x s = absurd h
 stand-set (d ∷ es) [] h k e x s = absurd h
 stand-set (d ∷ es) (y ∷ xs) h zero e x s = (s, h .1)
 stand-set (d ∷ es) (y ∷ xs) h (suc k) e x s = (h .0, stand-set es xs (h .1) k e x s)
 
-pub stand-add : (es : List LentEnrolment) (xs : List BoardEnrolment) → AllStand es xs → (e : LentEnrolment) (x : BoardEnrolment) → Stand e x → AllStand (es ++ (e ∷ [])) (xs ++ (x ∷ []))
+pub stand-add : (es : List LentEnrolment) (xs : List BoardEnrolment) → AllStand es xs → (e : LentEnrolment) (x : BoardEnrolment) → Stand e x
+    → AllStand (es ++ (e ∷ [])) (xs ++ (x ∷ []))
 stand-add [] [] h e x s = (s, tt)
 stand-add [] (y ∷ xs) h e x s = absurd h
 stand-add (d ∷ es) [] h e x s = absurd h
@@ -141,10 +143,12 @@ was-made (Refused n f) = refl
 
 -- ## What is to be sent
 
-pub registrar-sent-back : (a : RegistrarAnswer) (b : List ℕ) → OutgoingSized (a .outgoing) → leb registrarAnswerBytes (length b) ≡ true → registrarSent (packAt 0 registrarAnswerBytes (packRegistrarAnswer a) b) ≡ sentBy (a .sends) (a .outgoing)
+pub registrar-sent-back : (a : RegistrarAnswer) (b : List ℕ) → OutgoingSized (a .outgoing) → leb registrarAnswerBytes (length b) ≡ true
+    → registrarSent (packAt 0 registrarAnswerBytes (packRegistrarAnswer a) b) ≡ sentBy (a .sends) (a .outgoing)
 unfolding registrarSent
 registrar-sent-back a b z r = rw (registrar-sends-back a b z r, registrar-outgoing-back a b z r)
 
-pub end-entity-sent-back : (a : EndEntityAnswer) (b : List ℕ) → OutgoingSized (a .outgoing) → leb endEntityAnswerBytes (length b) ≡ true → endEntitySent (packAt 0 endEntityAnswerBytes (packEndEntityAnswer a) b) ≡ sentBy (a .sends) (a .outgoing)
+pub end-entity-sent-back : (a : EndEntityAnswer) (b : List ℕ) → OutgoingSized (a .outgoing) → leb endEntityAnswerBytes (length b) ≡ true
+    → endEntitySent (packAt 0 endEntityAnswerBytes (packEndEntityAnswer a) b) ≡ sentBy (a .sends) (a .outgoing)
 unfolding endEntitySent
 end-entity-sent-back a b z r = rw (end-entity-sends-back a b z r, end-entity-outgoing-back a b z r)

@@ -39,7 +39,8 @@ module _ (l : LentWorld) (w : World) (st : Stands l w) (d : Board) (s : List ℕ
   with o f v g y = record { outcome = o; fault = f; sends = v; outgoing = g; enrolment = y }
 
   module _ (f : Fault) (v : Bool) (g : Outgoing) (y : Enrolment) where
-    done : EndEntitySized (with Done f v g y) → eqb (length s) enrolmentBytes ≡ true → leb endEntityAnswerBytes (length b) ≡ true → After (with Done f v g y) (startWritten (with Done f v g y) s b)
+    done : EndEntitySized (with Done f v g y) → eqb (length s) enrolmentBytes ≡ true → leb endEntityAnswerBytes (length b) ≡ true
+        → After (with Done f v g y) (startWritten (with Done f v g y) s b)
     unfolding eventsOf packEnrolmentIn
     done z o r =
         record {
@@ -50,7 +51,8 @@ module _ (l : LentWorld) (w : World) (st : Stands l w) (d : Board) (s : List ℕ
           tables = (table-ok st, st .tables);
         }
 
-    refused : (m : ℕ) (q : FailureInfo) → EndEntitySized (with (Refused m q) f v g y) → leb endEntityAnswerBytes (length b) ≡ true → After (with (Refused m q) f v g y) (startWritten (with (Refused m q) f v g y) s b)
+    refused : (m : ℕ) (q : FailureInfo) → EndEntitySized (with (Refused m q) f v g y) → leb endEntityAnswerBytes (length b) ≡ true
+        → After (with (Refused m q) f v g y) (startWritten (with (Refused m q) f v g y) s b)
     unfolding eventsOf
     refused m q z r =
         record {
@@ -69,7 +71,9 @@ module _ (l : LentWorld) (w : World) (st : Stands l w) (d : Board) (s : List ℕ
     at true true false h = record { table = st .table; sized = st .sized; enrolments = st .enrolments; past = st .past; tables = (table-ok st, st .tables) }
     at true true true h = h refl refl
 
-  crossed : (a : EndEntityAnswer) → EndEntitySized a → (p : Bool) → (eqb (length s) enrolmentBytes ≡ true → leb endEntityAnswerBytes (length b) ≡ true → After a (startWritten a s b)) → After a (startCrossing p a s b)
+  crossed : (a : EndEntityAnswer) → EndEntitySized a → (p : Bool)
+      → (eqb (length s) enrolmentBytes ≡ true → leb endEntityAnswerBytes (length b) ≡ true → After a (startWritten a s b))
+      → After a (startCrossing p a s b)
   unfolding startCrossing
   crossed a z p h = at a (eqb (length s) enrolmentBytes) p (leb endEntityAnswerBytes (length b)) h
 

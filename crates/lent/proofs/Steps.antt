@@ -55,7 +55,8 @@ module _ (l : LentWorld) (w : World) (st : Stands l w) where
       unfolding registrarAnswered
       answered p = at p (leb registrarAnswerBytes (length b)) refl
 
-    pub registrar-step : (p : Bool) (f : TransactionTable → RegistrarAnswer) (b : List ℕ) → RegistrarSized (f (w .table)) → After (f (w .table)) (registrarCrossing p f (l .table) b)
+    pub registrar-step : (p : Bool) (f : TransactionTable → RegistrarAnswer) (b : List ℕ) → RegistrarSized (f (w .table))
+        → After (f (w .table)) (registrarCrossing p f (l .table) b)
     registrar-step p f b z =
         subst (After (f (w .table))) (ap (λ (u : UnpackedTable). registrarAnswered (u .ok) p (f (u .table)) (l .table) b) (sym (read-table st))) (answered (f (w .table)) b z p)
 
@@ -92,7 +93,8 @@ module _ (l : LentWorld) (w : World) (st : Stands l w) where
       unfolding eventsOf
       board-left n q = rw (q, set-same (l .enrolments) k e h) (record { table = st .table; sized = st .sized; enrolments = st .enrolments; past = rw q (st .past); tables = (table-ok st, st .tables) })
 
-      board-at : (p r : Bool) → leb endEntityAnswerBytes (length b) ≡ r → AfterBoard (some e) (some x) (unlessFaulty (boundaryFault true p r) (e .bytes) b (endEntityWritten a (e .bytes) b))
+      board-at : (p r : Bool) → leb endEntityAnswerBytes (length b) ≡ r
+          → AfterBoard (some e) (some x) (unlessFaulty (boundaryFault true p r) (e .bytes) b (endEntityWritten a (e .bytes) b))
       board-at false r h = board-left 252 refl
       board-at true false h = board-left 253 refl
       board-at true true h = board-written h
@@ -104,7 +106,8 @@ module _ (l : LentWorld) (w : World) (st : Stands l w) where
       board-crossed : (p : Bool) → AfterBoard (some e) (some x) (endEntityCrossing p f (e .bytes) b)
       board-crossed p = subst (AfterBoard (some e) (some x)) (ap (λ (u : UnpackedEnrolment). endEntityAnswered (u .ok) p (f (u .enrolment)) (e .bytes) b) (sym read-it)) (board-answered p)
 
-    pub enrolment-step : (e : Option LentEnrolment) (x : Option BoardEnrolment) → getElem? (l .enrolments) k ≡ e → BothStand e x → ((y : Enrolment) → Sized y → EndEntitySized (f y)) → (p : Bool) (b : List ℕ) → AfterBoard e x (endEntityCrossing p f (bytesOf e) b)
+    pub enrolment-step : (e : Option LentEnrolment) (x : Option BoardEnrolment) → getElem? (l .enrolments) k ≡ e → BothStand e x
+        → ((y : Enrolment) → Sized y → EndEntitySized (f y)) → (p : Bool) (b : List ℕ) → AfterBoard e x (endEntityCrossing p f (bytesOf e) b)
     unfolding eventsOf endEntityAnswered unpackEnrolment
     enrolment-step none none h s z p b = record { table = st .table; sized = st .sized; enrolments = st .enrolments; past = st .past; tables = (table-ok st, st .tables) }
     enrolment-step none (some x) h s z p b = absurd s

@@ -32,7 +32,8 @@ use Rattle.lent.specs.Witness.{lentEnrols, LentEnds, LentWitnesses}
 use Rattle.lent.proofs.Events.{Adds, call-adds}
 use Rattle.lent.proofs.Stand.{Stands}
 use Rattle.lent.proofs.Places.{shown, held-bytes, said}
-use Rattle.lent.proofs.Header.{header-demand3, same-premise}
+use Rattle.lent.proofs.Premises.{same-premise}
+use Rattle.lent.proofs.Header.{header-demand3}
 use Rattle.lent.proofs.Theorem.{lent-step, begins, lent-runs, stepIf}
 use Rattle.lent.proofs.Made.{some-at, is-made}
 
@@ -168,7 +169,8 @@ module _ (s : List ℕ) (e : length s ≡ tableBytes) (accept : ℕ) (confirm : 
     fair = same-premise s (lentEnrols accept confirm) .1 (subst (λ (w : World). Fair (w .past)) (sym same) (ends-in .fair))
 
     -- the state's number is that of Sure or Declined, for which the agreement finds the transaction
-    ends : ((x : LentEnrolment) → HeaderAgreement l₆ → getElem? (l₆ .enrolments) 0 ≡ some x → enrolmentState (x .bytes) ≡ stateNumber b → FoundBytes l₆ x (stateNumber b)) → LentEnds s (lentEnrols accept confirm) (stateNumber b)
+    ends : ((x : LentEnrolment) → HeaderAgreement l₆ → getElem? (l₆ .enrolments) 0 ≡ some x → enrolmentState (x .bytes) ≡ stateNumber b → FoundBytes l₆ x (stateNumber b))
+        → LentEnds s (lentEnrols accept confirm) (stateNumber b)
     ends find =
         let g : (x : LentEnrolment) × (getElem? (l₆ .enrolments) 0 ≡ some x) = some-at (l₆ .enrolments) 0 there₆ in
         let h : (getElem? (enrolmentsOf (l₆ .enrolments)) 0 ≡ some (shown (g .0))) × (unpackEnrolment (g .0 .bytes) .ok ≡ true) = held-bytes (l₆ .enrolments) (lent-runs s e (lentEnrols accept confirm) .enrolments) 0 (g .0) (g .1) in

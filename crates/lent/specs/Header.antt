@@ -56,7 +56,11 @@ pub record CarriesBytes (bytes : List ℕ) (m : Message) (o : List ℕ) : Type 0
   pub recipNonce : outgoingHasRecipNonce o ≡ 1 → HasPart bytes (m .fields .«recip_nonce») (outgoingRecipNonce o)
   pub noRecipNonce : outgoingHasRecipNonce o ≢ 1 → m .fields .«recip_nonce» .start .0 ≡ 0
   -- "the same status where the order has one (in a certConf none counts as 0),"
-  pub status : outgoingHasStatus o ≡ 1 → (m .contents .kind ≡ 23) ⊎ (m .contents .entries ≡ 1) → ((m .contents .entry .«has_status» ≡ true) × (m .contents .entry .status ≡ outgoingStatus o)) ⊎ ((m .contents .kind ≡ 24) × (m .contents .entry .«has_status» ≡ false) × (outgoingStatus o ≡ 0))
+  pub status :
+      outgoingHasStatus o ≡ 1
+      → (m .contents .kind ≡ 23) ⊎ (m .contents .entries ≡ 1)
+      → ((m .contents .entry .«has_status» ≡ true) × (m .contents .entry .status ≡ outgoingStatus o))
+      ⊎ ((m .contents .kind ≡ 24) × (m .contents .entry .«has_status» ≡ false) × (outgoingStatus o ≡ 0))
   -- "and in a certConf the same hash."
   pub hash : m .contents .kind ≡ 24 → m .contents .entries ≡ 1 → PartIs bytes (m .contents .entry .«cert_hash») (outgoingHash o)
 

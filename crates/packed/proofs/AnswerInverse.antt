@@ -74,7 +74,8 @@ module _ (a : RegistrarAnswer) (b : List ℕ) (z : OutgoingSized (a .outgoing)) 
   registrar-outgoing-back = ap (λ (l : List ℕ). outgoingOf (drop 15 l)) registrar-placed ∙ outgoing-back (a .outgoing) z (drop registrarAnswerBytes b)
 
   -- all of the answer
-  pub registrar-back : OutcomeBack (a .outcome) → a .slot .0 < 255 → (s : List ℕ) → unpackTable s .table ≡ a .table → registrarAnswerOf (packAt 0 registrarAnswerBytes (packRegistrarAnswer a) b) s ≡ a
+  pub registrar-back : OutcomeBack (a .outcome) → a .slot .0 < 255 → (s : List ℕ) → unpackTable s .table ≡ a .table
+      → registrarAnswerOf (packAt 0 registrarAnswerBytes (packRegistrarAnswer a) b) s ≡ a
   unfolding registrarAnswerOf
   registrar-back o h s e = rw (registrar-outcome-back o, registrar-fault-back, registrar-slot-back h, registrar-sends-back, registrar-outgoing-back, e)
 
@@ -119,6 +120,7 @@ module _ (a : EndEntityAnswer) (b : List ℕ) (z : OutgoingSized (a .outgoing)) 
   unfolding packEndEntityAnswer packOutcome packFault
   end-entity-outgoing-back = ap (λ (l : List ℕ). outgoingOf (drop 14 l)) end-entity-placed ∙ outgoing-back (a .outgoing) z (drop endEntityAnswerBytes b)
 
-  pub end-entity-back : OutcomeBack (a .outcome) → (s : List ℕ) → unpackEnrolment s .enrolment ≡ a .enrolment → endEntityAnswerOf (packAt 0 endEntityAnswerBytes (packEndEntityAnswer a) b) s ≡ a
+  pub end-entity-back : OutcomeBack (a .outcome) → (s : List ℕ) → unpackEnrolment s .enrolment ≡ a .enrolment
+      → endEntityAnswerOf (packAt 0 endEntityAnswerBytes (packEndEntityAnswer a) b) s ≡ a
   unfolding endEntityAnswerOf
   end-entity-back o s e = rw (end-entity-outcome-back o, end-entity-fault-back, end-entity-sends-back, end-entity-outgoing-back, e)
