@@ -16,7 +16,7 @@
  * The registrar has a table of 16 transactions, each in a slot; an end entity has one enrolment. Both are plain bytes
  * that the host lends to a call. A call reads what it is handed, decides, moves the state and writes an answer: how it
  * ended and, if a message is to be sent, what it says ("outgoing"). A refused call says why, by a number, and leaves
- * the state as it was.
+ * the state as it was: LentDemand1 in crates/lent/specs, of whatever bytes are lent.
  *
  * WHAT THE HOST DOES ITSELF
  *
@@ -34,6 +34,8 @@
  * twice, then, whatever the line loses, repeats, reorders or makes up: an end entity that is Sure has its transaction
  * Confirmed with the same hash, one that is Declined has it Declined, until it is closed; where a transaction is
  * Confirmed, its end entity holds the same hash and is Sure, Confirming or Unsettled; one that Failed never had it so.
+ * This is HeaderDemand3 in crates/lent/specs: proved of any list of these calls, at the places in the bytes that are
+ * said here. Not proved are the declarations in this header, and the compiler.
  *
  * MEMORY
  *
@@ -126,7 +128,7 @@ extern "C" {
 
 /*
  * 1 is yes, and every other number no, so that a number that means a failure elsewhere, as -1 does, is never good. Hand
- * in these constants and not what another library returned.
+ * in these constants and not what another library returned: a wider number is cut to its low 8 bits before the call.
  */
 enum duskstall_verdict {
     DUSKSTALL_VERDICT_BAD = 0, /* and every number but 1 */

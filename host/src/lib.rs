@@ -47,7 +47,12 @@
 //! Confirmed with the same hash, and one that is Declined has it Declined, until
 //! it is closed; where a transaction is Confirmed, its board holds that hash and
 //! is Sure, Confirming or Unsettled; a board that Failed never had it Confirmed.
-//! It supposes of the host:
+//! This is `HeaderDemand3` in `crates/lent/specs`, of any list of the library's
+//! calls on lent bytes; `LentDemand1` there says that a refused call leaves the
+//! state's bytes as they were. Not proved are the declarations of these calls in
+//! C and in Rust, this crate, and the compiler.
+//!
+//! The agreement supposes of the host:
 //!
 //! - a good verdict is given only for a message that the sender it names issued;
 //! - no id and no nonce is drawn twice;
