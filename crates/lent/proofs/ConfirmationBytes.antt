@@ -25,7 +25,7 @@ use Rattle.packed.specs.Answer.{outcomeNumber, registrarAnswerBytes}
 use Rattle.packed.specs.Table.{unpackTable}
 use Rattle.duskstall.specs.Boundary.{Crossing, registrarWritten, registrarAnswered, registrarCrossing}
 use Rattle.duskstall.specs.Calls.{registrarInput}
-use Rattle.lent.specs.Calls.{RegistrarMessage}
+use Rattle.lent.specs.Calls.{RegistrarCall, RegistrarMessage}
 use Rattle.lent.specs.Lent.{LentCall, AtRegistrar, LentWorld, crossing, isMade, lentAfter, lentBeginning}
 use Rattle.lent.specs.Kept.{LentPromise}
 use Rattle.lent.specs.Reads.{registrarRead, tableIn}
@@ -83,14 +83,14 @@ module _ (t : TransactionTable) (d : RegistrarInput) (bytes : List ℕ) (m : Mes
           else = stays;
         }
 
-confirms : (w : LentWorld) → ((c : LentCall) → LentPromise w c) → ConfirmsBytes w
+confirms : (w : LentWorld) → ((c : RegistrarCall) (a : List ℕ) → LentPromise w (AtRegistrar c a)) → ConfirmsBytes w
 confirms w promise bytes g b n a made m reads kind =
     let c : LentCall = AtRegistrar (RegistrarMessage bytes g b n) a in
     confirmed (tableIn w) (registrarInput g b n) bytes m reads kind (w .table) (crossing w c) (lent-reads w c made)
-    (registrar-code (unpack16 n .ok) (λ t. registrarMessage t (registrarInput g b n) bytes) (w .table) a made) (promise c .unchanged)
+    (registrar-code (unpack16 n .ok) (λ t. registrarMessage t (registrarInput g b n) bytes) (w .table) a made) (promise (RegistrarMessage bytes g b n) a .unchanged)
 
 pub lent-confirmation : LentConfirmation
-lent-confirmation w all = confirms w (lent-demand1 w all)
+lent-confirmation w all = confirms w (λ c a. lent-demand1 w (AtRegistrar c a) all)
 
 pub lent-confirmation-after : LentConfirmationAfter
-lent-confirmation-after s e calls = confirms (lentAfter (lentBeginning s) calls) (lent-sound s e calls .promise)
+lent-confirmation-after s e calls = confirms (lentAfter (lentBeginning s) calls) (λ c a. lent-sound s e calls .promise (AtRegistrar c a))

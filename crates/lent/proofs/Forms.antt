@@ -1,16 +1,20 @@
 -- Every exported call in one form: what it asks of its arrays, and what is proved of its answer on values. A call that joins the list adds one here.
 use Prim.Native.Nat.{ℕ}
 use mathlib.Core.List.{List}
-use mathlib.Core.Bool.{Bool, true, _&&_}
+use mathlib.Core.Bool.{Bool, true, false, _&&_}
 use mathlib.Core.Option.{some}
-use mathlib.Core.Path.{_≡_, refl, sym, _∙_, ap}
+use mathlib.Core.Path.{_≡_, refl, sym, _∙_, ap, subst}
+use mathlib.Core.Logic.{_↔_}
 use borrow.Author.Tests.{eqb-true, eq-eqb}
 use lib.ListN.{length, getElem?}
 use lib.Dec.{eqb}
 use Rattle.protocol.specs.declared.TransactionTable.{TransactionTable}
 use Rattle.protocol.specs.declared.Enrolment.{Enrolment}
+use Rattle.protocol.specs.declared.Verdict.{Verdict}
+use Rattle.message.specs.Read.{readingOf}
+use Rattle.protocol.specs.Agreement.{ByVerdict, ByGood, SenderIssued}
 use Rattle.protocol.specs.Promises.{RegistrarPromise, EndEntityPromise}
-use Rattle.protocol.specs.Run.{World, step, registrarDid, enrolmentDid}
+use Rattle.protocol.specs.Run.{TheRegistrar, OneBoard, World, step, registrarDid, enrolmentDid}
 use Rattle.protocol.proofs.Tests.{true-false, none-some, some-some, cases}
 use Rattle.protocol.proofs.RegistrarPromises as at-registrar
 use Rattle.protocol.proofs.EndEntityPromises as at-board
@@ -18,12 +22,14 @@ use Rattle.packed.specs.declared.arrays.Unpacked16.{Unpacked16}
 use Rattle.packed.specs.Arrays.{unpack16, unpack32}
 use Rattle.packed.specs.Table.{TableSized}
 use Rattle.packed.specs.Enrolment.{Sized}
-use Rattle.duskstall.specs.Boundary.{registrarCrossing, endEntityCrossing}
+use Rattle.duskstall.specs.Boundary.{registrarCrossing, endEntityCrossing, yes, verdictOf}
 use Rattle.duskstall.specs.Calls.{idOf, nonceOf, hashOf, registrarInput, endEntityInput}
 use Rattle.lent.specs.Calls.{RegistrarCall, RegistrarMessage, RegistrarIssue, RegistrarRefuse, RegistrarLapse, RegistrarClose, registrarCrosses, registrarStep, registrarAnswers, registrarRefusals, closing}
 use Rattle.lent.specs.Calls.{EndEntityCall, EndEntityMessage, EndEntityTimeOut, endEntityCrosses, endEntityStep, endEntityAnswers, endEntityRefusals}
-use Rattle.lent.specs.Lent.{closedBy}
+use Rattle.lent.specs.Lent.{LentEvent, closedBy, eventsOf}
+use Rattle.lent.specs.Header.{IssuedBytes, GoodAtRegistrar, GoodAtEndEntity}
 use Rattle.lent.specs.Made.{RegistrarFits, EndEntityFits}
+use Rattle.lent.proofs.Sent.{issued-bytes, issued-back}
 use Rattle.lent.proofs.Sizes.{sixteen-in, thirty-two-in}
 use Rattle.lent.proofs.RegistrarSizes as registrar-sizes
 use Rattle.lent.proofs.EndEntitySizes as board-sizes
@@ -47,6 +53,21 @@ length-16 s = cases (λ (u : Unpacked16). u .ok ≡ true → length s ≡ 16) (e
 pub and : {a b : Bool} → a ≡ true → b ≡ true → (a && b) ≡ true
 and {a} {b} p q = rw (p, q)
 
+-- ## Verdicts: good is 1
+
+good-verdict : (bytes : List ℕ) (g b : ℕ) (es : List LentEvent) → (g ≡ 1 → IssuedBytes (OneBoard (record { 0 = b })) bytes (readingOf bytes) es)
+    → ByVerdict (verdictOf g b) bytes (eventsOf es)
+good-verdict bytes g b es h =
+    cases (λ (v : Verdict). ByVerdict v bytes (eventsOf es)) (eqb g 1) _ _ (λ e. issued-bytes (OneBoard (record { 0 = b })) bytes (readingOf bytes) es (h (eqb-true _ _ e))) (λ _. tt)
+
+verdict-back : (bytes : List ℕ) (g b : ℕ) (es : List LentEvent) → ByVerdict (verdictOf g b) bytes (eventsOf es)
+    → g ≡ 1 → IssuedBytes (OneBoard (record { 0 = b })) bytes (readingOf bytes) es
+verdict-back bytes g b es h e = issued-back (OneBoard (record { 0 = b })) bytes (readingOf bytes) es (subst (λ (k : ℕ). ByVerdict (verdictOf k b) bytes (eventsOf es)) e h)
+
+by-good : {A : Type 0} (v : Bool) (bytes : List ℕ) (es : List LentEvent) → (A → v ≡ true → IssuedBytes TheRegistrar bytes (readingOf bytes) es) → A → ByGood v bytes (eventsOf es)
+by-good true bytes es f a = issued-bytes TheRegistrar bytes (readingOf bytes) es (f a refl)
+by-good false bytes es f a = tt
+
 -- ## The registrar
 
 pub record RegistrarForm (c : RegistrarCall) : Type 0 where
@@ -58,6 +79,7 @@ pub record RegistrarForm (c : RegistrarCall) : Type 0 where
   pub sized : (t : TransactionTable) → TableSized t → RegistrarSized (registrarAnswers c t)
   pub closes : (i : List ℕ) → closing c ≡ some i → args ≡ true → length i ≡ 16
   pub fits : RegistrarFits c → args ≡ true
+  pub good : (es : List LentEvent) → GoodAtRegistrar c es ↔ SenderIssued (registrarStep c) (eventsOf es)
 
 pub registrar-form : (c : RegistrarCall) → RegistrarForm c
 unfolding step
@@ -70,6 +92,7 @@ registrar-form (RegistrarMessage bytes g b n) =
       sized = λ t z. registrar-sizes.message-sized t z (registrarInput g b n) (sixteen-in n) bytes;
       closes = λ i e. none-some e;
       fits = ok-16 n;
+      good = λ es. (good-verdict bytes g b es, verdict-back bytes g b es);
     }
 registrar-form (RegistrarIssue i n h) =
     record {
@@ -80,6 +103,7 @@ registrar-form (RegistrarIssue i n h) =
       sized = λ t z. registrar-sizes.issue-sized t z (idOf i) (sixteen-in i) (nonceOf n) (hashOf h) (sixteen-in n) (thirty-two-in h);
       closes = λ j e. none-some e;
       fits = λ f. and (ok-16 i (f .0)) (and (ok-16 n (f .1)) (ok-32 h (f .2)));
+      good = λ _. ((λ _. tt), (λ _. tt));
     }
 registrar-form (RegistrarRefuse i n) =
     record {
@@ -90,6 +114,7 @@ registrar-form (RegistrarRefuse i n) =
       sized = λ t z. registrar-sizes.refuse-sized t z (idOf i) (sixteen-in i) (nonceOf n) (sixteen-in n);
       closes = λ j e. none-some e;
       fits = λ f. and (ok-16 i (f .0)) (ok-16 n (f .1));
+      good = λ _. ((λ _. tt), (λ _. tt));
     }
 registrar-form (RegistrarLapse i) =
     record {
@@ -100,6 +125,7 @@ registrar-form (RegistrarLapse i) =
       sized = λ t z. registrar-sizes.lapse-sized t z (idOf i) (sixteen-in i);
       closes = λ j e. none-some e;
       fits = ok-16 i;
+      good = λ _. ((λ _. tt), (λ _. tt));
     }
 registrar-form (RegistrarClose i) =
     record {
@@ -110,6 +136,7 @@ registrar-form (RegistrarClose i) =
       sized = λ t z. registrar-sizes.close-sized t z (idOf i) (sixteen-in i);
       closes = λ j e o. ap length (sym (some-some e)) ∙ length-16 i o;
       fits = ok-16 i;
+      good = λ _. ((λ _. tt), (λ _. tt));
     }
 
 -- ## An end entity
@@ -121,6 +148,7 @@ pub record EndEntityForm (c : EndEntityCall) : Type 0 where
   pub promise : (x : Enrolment) → EndEntityPromise (endEntityRefusals c) x (endEntityAnswers c x)
   pub sized : (x : Enrolment) → Sized x → EndEntitySized (endEntityAnswers c x)
   pub fits : EndEntityFits c → args ≡ true
+  pub good : (k : ℕ) (es : List LentEvent) → GoodAtEndEntity c es ↔ SenderIssued (endEntityStep k c) (eventsOf es)
 
 pub end-entity-form : (c : EndEntityCall) → EndEntityForm c
 unfolding step
@@ -132,6 +160,7 @@ end-entity-form (EndEntityMessage bytes g a h n) =
       promise = λ x. at-board.message-promise x (endEntityInput g a h n) bytes;
       sized = λ x z. board-sizes.message-sized x z (endEntityInput g a h n) (thirty-two-in h) (sixteen-in n) bytes;
       fits = λ f. and (ok-32 h (f .0)) (ok-16 n (f .1));
+      good = λ _ es. (by-good (eqb g 1) bytes es (λ f e. f (eqb-true _ _ e)), λ f e. issued-back TheRegistrar bytes (readingOf bytes) es (subst (λ (k : ℕ). ByGood (yes k) bytes (eventsOf es)) e f));
     }
 end-entity-form EndEntityTimeOut =
     record {
@@ -141,4 +170,5 @@ end-entity-form EndEntityTimeOut =
       promise = at-board.time-out-promise;
       sized = board-sizes.time-out-sized;
       fits = λ _. refl;
+      good = λ _ _. ((λ _. tt), (λ _. tt));
     }

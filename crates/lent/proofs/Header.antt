@@ -27,7 +27,8 @@ use Rattle.packed.specs.Enrolment.{unpackEnrolment}
 use Rattle.lent.specs.Lent.{LentEnrolment, LentEvent, LentWorld, isMade, eventOf, eventsOf, EnrolmentsOk, TablesOk, worldOf, lentAfter, lentBeginning}
 use Rattle.lent.specs.Places.{transactionId, transactionState, enrolmentId, enrolmentState}
 use Rattle.lent.specs.Header.{IsClose, InSlot, ClosedBytes, IsCertConf, SentCertConf, FoundBytes, NeverConfirmed, EnrolmentOf, HeaderAgreement, HeaderDemand3}
-use Rattle.lent.proofs.Premises.{issued-sent, sent-map, some-later, some-first, sent-issued, closed-at, fair-bytes}
+use Rattle.lent.proofs.Sent.{issued-sent, sent-map, some-later, some-first, sent-issued}
+use Rattle.lent.proofs.Premises.{closed-at, fair-bytes}
 use Rattle.lent.proofs.Events.{PlainEvent, AllPlain, all-plain}
 use Rattle.lent.proofs.Places.{row, state-at, id-at, sent-at, hash-at, board-at, number-of-state, not-lapsed, held-row, in-use, board-id, board-hash, says, said, shown, held-bytes, bytes-held, id-is}
 use Rattle.lent.proofs.Theorem.{lent-runs, lent-demand3}

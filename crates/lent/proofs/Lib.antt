@@ -11,6 +11,7 @@ pub mod Places
 pub mod Premises
 pub mod ReadBack
 pub mod RegistrarSizes
+pub mod Sent
 pub mod Sizes
 pub mod SlotBytes
 pub mod Stand

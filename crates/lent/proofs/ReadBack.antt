@@ -19,12 +19,12 @@ use Rattle.packed.specs.Arrays.{unpack16}
 use Rattle.packed.specs.Answer.{outcomeNumber, registrarAnswerBytes, endEntityAnswerBytes}
 use Rattle.packed.specs.Table.{packTable, unpackTable, TableSized}
 use Rattle.packed.specs.Enrolment.{enrolmentBytes, packEnrolment, packEnrolmentIn, unpackEnrolment, Sized}
-use Rattle.packed.proofs.AnswerInverse.{registrar-back, end-entity-back}
+use Rattle.packed.proofs.AnswerInverse.{registrar-back, end-entity-back, end-entity-outcome-back, end-entity-fault-back, end-entity-sends-back, end-entity-outgoing-back}
 use Rattle.duskstall.specs.Boundary.{Crossing, registrarWritten, registrarAnswered, registrarCrossing, endEntityWritten, endEntityAnswered, endEntityCrossing, startWritten, startCrossing}
 use Rattle.duskstall.specs.Calls.{idOf, nonceOf}
 use Rattle.lent.specs.Calls.{registrarCrosses, registrarAnswers, endEntityCrosses, endEntityAnswers}
 use Rattle.lent.specs.Lent.{AtRegistrar, AtEndEntity, EndEntityStart, LentWorld, bytesOf, isMade, lentAfter, lentBeginning, made}
-use Rattle.lent.specs.Reads.{registrarRead, endEntityRead, tableIn, LentReads, LentSound}
+use Rattle.lent.specs.Reads.{registrarRead, endEntityRead, StartReads, tableIn, LentReads, LentSound}
 use Rattle.lent.proofs.Sizes.{sixteen-in}
 use Rattle.lent.proofs.Forms.{RegistrarForm, registrar-form, EndEntityForm, end-entity-form}
 use Rattle.lent.proofs.RegistrarSizes.{RegistrarSized}
@@ -62,13 +62,18 @@ start-state : (a : EndEntityAnswer) (s : List ℕ) → eqb (length s) enrolmentB
 unfolding packEnrolmentIn
 start-state a s o e = rw (eq-eqb _ _ e, o)
 
-start-reads : (p : Bool) (a : EndEntityAnswer) (s b : List ℕ) → EndEntitySized a → isMade (startCrossing p a s b .code) ≡ true
-    → startCrossing p a s b .code ≡ 0 → endEntityRead (startCrossing p a s b) ≡ a
+start-reads : (p : Bool) (a : EndEntityAnswer) (s b : List ℕ) → EndEntitySized a → isMade (startCrossing p a s b .code) ≡ true → StartReads (startCrossing p a s b) a
 unfolding startCrossing
-start-reads p a s b z m =
-    made-of (λ x. x .code ≡ 0 → endEntityRead x ≡ a) (eqb (length s) enrolmentBytes) p (leb endEntityAnswerBytes (length b)) s b (startWritten a s b)
-    (λ o _ r e. end-entity-back a b (z .outgoing) r (z .outcome) _ (ap (λ (u : UnpackedEnrolment). u .enrolment) (enrolment-read (a .enrolment) (z .enrolment) (start-state a s o e))))
-    m
+start-reads p a s b z =
+    made-of (λ x. StartReads x a) (eqb (length s) enrolmentBytes) p (leb endEntityAnswerBytes (length b)) s b (startWritten a s b)
+    (λ o _ r.
+    record {
+      outcome = end-entity-outcome-back a b (z .outgoing) r (z .outcome);
+      fault = end-entity-fault-back a b (z .outgoing) r;
+      sends = end-entity-sends-back a b (z .outgoing) r;
+      outgoing = end-entity-outgoing-back a b (z .outgoing) r;
+      enrolment = λ e. ap (λ (u : UnpackedEnrolment). u .enrolment) (enrolment-read (a .enrolment) (z .enrolment) (start-state a s o e));
+    })
 
 pub lent-reads : LentReads
 lent-reads w (AtRegistrar c b) m =

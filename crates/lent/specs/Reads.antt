@@ -3,14 +3,16 @@ use Prim.Native.Nat.{ℕ}
 use mathlib.Core.List.{List}
 use mathlib.Core.Bool.{true}
 use mathlib.Core.Path.{_≡_}
-use lib.ListN.{length, getElem?}
+use lib.ListN.{length, drop, getElem?}
 use Rattle.protocol.specs.declared.TransactionTable.{TransactionTable}
 use Rattle.protocol.specs.declared.Enrolment.{Enrolment}
 use Rattle.protocol.specs.declared.RegistrarAnswer.{RegistrarAnswer}
 use Rattle.protocol.specs.declared.EndEntityAnswer.{EndEntityAnswer}
 use Rattle.protocol.specs.EndEntity.{endEntityStart}
 use Rattle.protocol.specs.Promises.{AtMostOne, AllUnsetZero}
-use Rattle.packed.specs.Answer.{registrarAnswerOf, endEntityAnswerOf}
+use Rattle.packed.specs.Bytes.{flagAt}
+use Rattle.packed.specs.Outgoing.{outgoingOf}
+use Rattle.packed.specs.Answer.{outcomeOf, faultOf, registrarAnswerOf, endEntityAnswerOf}
 use Rattle.packed.specs.Table.{tableBytes, unpackTable}
 use Rattle.packed.specs.Enrolment.{unpackEnrolment}
 use Rattle.duskstall.specs.Boundary.{Crossing}
@@ -31,12 +33,18 @@ tableIn w = unpackTable (w .table) .table
 abbrev pub enrolmentIn : LentWorld → ℕ → Enrolment
 enrolmentIn w k = unpackEnrolment (bytesOf (getElem? (w .enrolments) k)) .enrolment
 
--- a start that is refused leaves no enrolment to read
+-- of a start; one that is refused leaves no enrolment to read
+pub record StartReads (x : Crossing) (a : EndEntityAnswer) : Type 0 where
+  pub outcome : outcomeOf (x .answer) ≡ a .outcome
+  pub fault : faultOf (x .answer) ≡ a .fault
+  pub sends : flagAt 13 (x .answer) ≡ a .sends
+  pub outgoing : outgoingOf (drop 14 (x .answer)) ≡ a .outgoing
+  pub enrolment : x .code ≡ 0 → unpackEnrolment (x .state) .enrolment ≡ a .enrolment
+
 abbrev pub ReadsBack : LentWorld → LentCall → Type 0
 ReadsBack w (AtRegistrar c a) = registrarRead (crossing w (AtRegistrar c a)) ≡ registrarAnswers c (tableIn w)
 ReadsBack w (AtEndEntity k c a) = endEntityRead (crossing w (AtEndEntity k c a)) ≡ endEntityAnswers c (enrolmentIn w k)
-ReadsBack w (EndEntityStart b s k i n a) =
-    crossing w (EndEntityStart b s k i n a) .code ≡ 0 → endEntityRead (crossing w (EndEntityStart b s k i n a)) ≡ endEntityStart k (idOf i) (nonceOf n)
+ReadsBack w (EndEntityStart b s k i n a) = StartReads (crossing w (EndEntityStart b s k i n a)) (endEntityStart k (idOf i) (nonceOf n))
 
 -- on any bytes at all
 abbrev pub LentReads : Type 0

@@ -108,7 +108,7 @@ module _ (a : EndEntityAnswer) (b : List ℕ) (z : OutgoingSized (a .outgoing)) 
   unfolding packEndEntityAnswer packOutcome
   end-entity-refusal-at n f e = ap (λ (l : List ℕ). getD l 1 0) end-entity-placed ∙ ap refusalNumber e
 
-  end-entity-fault-back : faultOf (packAt 0 endEntityAnswerBytes (packEndEntityAnswer a) b) ≡ a .fault
+  pub end-entity-fault-back : faultOf (packAt 0 endEntityAnswerBytes (packEndEntityAnswer a) b) ≡ a .fault
   unfolding packEndEntityAnswer packOutcome packFault
   end-entity-fault-back = ap faultOf end-entity-placed ∙ rw (four-back (a .fault .at .0 / 4294967296), four-back (a .fault .at .0 % 4294967296), eight-back (a .fault .at .0))
 
