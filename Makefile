@@ -29,7 +29,7 @@ bench: $(LIBRARY) ## the proved reader's speed beside a Rust reader's, and that 
 clean: ## removes all that was built, the proofs too
 	rm -rf target host/target
 
-# The proofs of all crates, if they are not there or not of these files, and then the library.
+# The proofs of the library's crates, if they are not there or not of these files, and then the library.
 $(LIBRARY): $(CRATES)
 	rt staticlib duskstall
 
