@@ -127,8 +127,9 @@ extern "C" {
 /* ---- What the host says of a message ----------------------------------------------------------------------------- */
 
 /*
- * 1 is yes, and every other number no, so that a number that means a failure elsewhere, as -1 does, is never good. Hand
- * in these constants and not what another library returned: a wider number is cut to its low 8 bits before the call.
+ * 1 is yes, and every other number no, so that -1, by which other libraries tell a failure, is not good. Hand in these
+ * constants and not what another library returned: a wider number is cut to its low 8 bits before the call, so that 257
+ * would be good.
  */
 enum duskstall_verdict {
     DUSKSTALL_VERDICT_BAD = 0, /* and every number but 1 */

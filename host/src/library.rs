@@ -15,8 +15,8 @@ pub const BAD_LENGTH: u64 = 252;
 /// A call's number where the answer has no room.
 pub const NO_ROOM: u64 = 253;
 
-/// A good verdict. This number alone is good: one that means a failure
-/// elsewhere, as -1 does, never is.
+/// A good verdict. This number alone is good: -1, by which others tell a
+/// failure, is not.
 pub const VERDICT_GOOD: u8 = 1;
 
 /// A bad verdict, as every number but [`VERDICT_GOOD`] is.

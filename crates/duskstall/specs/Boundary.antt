@@ -78,7 +78,7 @@ startCrossing args a s b = unlessFaulty (boundaryFault (eqb (length s) enrolment
 
 -- ## What is handed in
 
--- 1 is yes, every other number no, so that a number that means a failure elsewhere is never good
+-- 1 is yes, every other number no, so that -1, by which others tell a failure, is not good
 abbrev pub yes : ℕ → Bool
 yes n = eqb n 1
 

@@ -64,7 +64,7 @@ pub(crate) fn both(a: bool, b: bool) -> bool
     if a { b } else { false }
 }
 
-// 1 is yes, every other number no, so that a number that means a failure elsewhere is never good.
+// 1 is yes, every other number no, so that -1, by which others tell a failure, is not good.
 const YES: u8 = 1;
 
 pub(crate) fn yes(n: u8) -> bool

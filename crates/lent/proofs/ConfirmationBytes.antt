@@ -5,8 +5,6 @@ use mathlib.Core.Bool.{Bool, true, false}
 use mathlib.Core.Path.{_≡_, refl, sym, _∙_, ap}
 use mathlib.Core.Logic.{_⊎_, inl, inr}
 use native.Mathlib.Omega.{arith}
-use lib.ListN.{length}
-use lib.Dec.{leb}
 use Rattle.message.specs.Read.{readingOf}
 use Rattle.grammar.specs.declared.Message.{Message}
 use Rattle.message.specs.declared.Reading.the-variants as read
@@ -20,26 +18,18 @@ use Rattle.protocol.specs.declared.RegistrarAnswer.{RegistrarAnswer}
 use Rattle.protocol.specs.Registrar.{registrarMessage}
 use Rattle.protocol.specs.Confirmation.{LeadsTo, ConfirmationRule}
 use Rattle.protocol.proofs.ConfirmationRule.{confirmation-rule}
-use Rattle.packed.specs.Arrays.{unpack16}
-use Rattle.packed.specs.Answer.{outcomeNumber, registrarAnswerBytes}
-use Rattle.packed.specs.Table.{unpackTable}
-use Rattle.duskstall.specs.Boundary.{Crossing, registrarWritten, registrarAnswered, registrarCrossing}
+use Rattle.packed.specs.Answer.{outcomeNumber}
+use Rattle.duskstall.specs.Boundary.{Crossing}
 use Rattle.duskstall.specs.Calls.{registrarInput}
 use Rattle.lent.specs.Calls.{RegistrarCall, RegistrarMessage}
-use Rattle.lent.specs.Lent.{LentCall, AtRegistrar, LentWorld, crossing, isMade, lentAfter, lentBeginning}
+use Rattle.lent.specs.Lent.{LentCall, AtRegistrar, LentWorld, crossing, lentAfter, lentBeginning}
 use Rattle.lent.specs.Kept.{LentPromise}
 use Rattle.lent.specs.Reads.{registrarRead, tableIn}
 use Rattle.lent.specs.ConfirmationBytes.{BytesConfirmed, ConfirmsBytes, LentConfirmation, LentConfirmationAfter}
-use Rattle.lent.proofs.Stand.{made-of}
 use Rattle.lent.proofs.Kept.{lent-demand1}
 use Rattle.lent.proofs.ReadBack.{lent-reads, lent-sound}
 
 -- ## What is returned
-
-registrar-code : (p : Bool) (f : TransactionTable → RegistrarAnswer) (s b : List ℕ) → isMade (registrarCrossing p f s b .code) ≡ true
-    → registrarCrossing p f s b .code ≡ outcomeNumber (f (unpackTable s .table) .outcome)
-unfolding registrarAnswered
-registrar-code p f s b = made-of (λ x. x .code ≡ outcomeNumber (f (unpackTable s .table) .outcome)) (unpackTable s .ok) p (leb registrarAnswerBytes (length b)) s b (registrarWritten (f (unpackTable s .table)) s b) (λ _ _ _. refl)
 
 is-done : (o : Outcome) → outcomeNumber o ≡ 0 → o ≡ outcome.Done
 is-done outcome.Done e = refl
@@ -86,8 +76,7 @@ module _ (t : TransactionTable) (d : RegistrarInput) (bytes : List ℕ) (m : Mes
 confirms : (w : LentWorld) → ((c : RegistrarCall) (a : List ℕ) → LentPromise w (AtRegistrar c a)) → ConfirmsBytes w
 confirms w promise bytes g b n a made m reads kind =
     let c : LentCall = AtRegistrar (RegistrarMessage bytes g b n) a in
-    confirmed (tableIn w) (registrarInput g b n) bytes m reads kind (w .table) (crossing w c) (lent-reads w c made)
-    (registrar-code (unpack16 n .ok) (λ t. registrarMessage t (registrarInput g b n) bytes) (w .table) a made) (promise (RegistrarMessage bytes g b n) a .unchanged)
+    confirmed (tableIn w) (registrarInput g b n) bytes m reads kind (w .table) (crossing w c) (lent-reads w c made .answer) (lent-reads w c made .code) (promise (RegistrarMessage bytes g b n) a .unchanged)
 
 pub lent-confirmation : LentConfirmation
 lent-confirmation w all = confirms w (λ c a. lent-demand1 w (AtRegistrar c a) all)

@@ -22,7 +22,7 @@ use Rattle.packed.proofs.EnrolmentInverse.{enrolment-sized}
 use Rattle.duskstall.specs.Boundary.{Crossing, registrarWritten, registrarAnswered, registrarCrossing, endEntityWritten, endEntityAnswered, endEntityCrossing, startWritten, startCrossing}
 use Rattle.duskstall.specs.Calls.{idOf, nonceOf}
 use Rattle.lent.specs.Calls.{registrarCrosses, registrarAnswers, closing, endEntityCrosses, endEntityAnswers}
-use Rattle.lent.specs.Lent.{LentCall, AtRegistrar, AtEndEntity, EndEntityStart, LentEnrolment, LentEvent, LentWorld, bytesOf, crossing, isMade, lentStep, lentAfter, enrolmentLent}
+use Rattle.lent.specs.Lent.{LentCall, AtRegistrar, AtEndEntity, EndEntityStart, LentEnrolment, LentEvent, LentWorld, heldBytes, crossing, isMade, lentStep, lentAfter, enrolmentLent}
 use Rattle.lent.proofs.Sizes.{sixteen-in}
 use Rattle.lent.proofs.RegistrarSizes.{RegistrarSized}
 use Rattle.lent.proofs.EndEntitySizes.{EndEntitySized, start-sized}
@@ -73,7 +73,7 @@ plain w (AtRegistrar c b) m =
     (h .code, λ i q. f .closes i q (h .args))
 plain w (AtEndEntity k c b) m =
     let f : EndEntityForm c = end-entity-form c in
-    let s : List ℕ = bytesOf (getElem? (w .enrolments) k) in
+    let s : List ℕ = heldBytes (getElem? (w .enrolments) k) in
     let e : endEntityCrosses c s b ≡ endEntityCrossing (f .args) (endEntityAnswers c) s b = f .crosses s b in
     let h : Plain (f .args) (endEntityCrosses c s b) = subst (Plain (f .args)) (sym e) (board-plain (f .args) (endEntityAnswers c) s b (f .sized) (subst (λ (x : Crossing). isMade (x .code) ≡ true) e m)) in
     (h .code, tt)

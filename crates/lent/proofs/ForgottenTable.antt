@@ -24,7 +24,7 @@ use Rattle.packed.proofs.TableInverse.{unpack-packed}
 use Rattle.duskstall.specs.Boundary.{Crossing, registrarWritten, registrarAnswered}
 use Rattle.duskstall.specs.Calls.{idOf, lapseCrossing}
 use Rattle.lent.specs.Lent.{LentCall, LentWorld, registrarLent, lentStep, lentAfter, lentBeginning}
-use Rattle.lent.specs.Places.{transactionState}
+use Rattle.lent.specs.Places.{transactionState, outgoingRecipNonce}
 use Rattle.lent.specs.Header.{ClosedBytes, FairBytes, InSlot, HeaderAgreement}
 use Rattle.lent.specs.Witness.{lentEnrols, LentEnds}
 use Rattle.lent.specs.OtherBytes.{HostCall, lentBy, hostStep, hostAfter, asLeft}
@@ -130,7 +130,7 @@ forgotten-table s calls n f k e h b =
       unchanged = ap (λ (x : Crossing). x .state) lapse-ends ∙ state-is;
       disagrees = record {
         fair = subst (λ (v : LentWorld). FairBytes (v .past)) (sym same) (fair-after w f);
-        fails = λ a. let g = subst HeaderAgreement same a .sure k e h b in either w _ (g .0) (e .bytes) (after-open calls (lentBeginning s) n _ (g .0) (λ x. x)) (g .3);
+        fails = λ a. let g = subst HeaderAgreement same a .sure k e h b in either w _ (outgoingRecipNonce (g .0)) (e .bytes) (after-open calls (lentBeginning s) n _ (outgoingRecipNonce (g .0)) (λ x. x)) (g .3);
       };
     }
 

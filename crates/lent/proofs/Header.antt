@@ -25,12 +25,12 @@ use Rattle.packed.specs.Enrolment as enrolment
 use Rattle.packed.specs.Table.{unpackTable}
 use Rattle.packed.specs.Enrolment.{unpackEnrolment}
 use Rattle.lent.specs.Lent.{LentEnrolment, LentEvent, LentWorld, isMade, eventOf, eventsOf, EnrolmentsOk, TablesOk, worldOf, lentAfter, lentBeginning}
-use Rattle.lent.specs.Places.{transactionId, transactionState, enrolmentId, enrolmentState}
-use Rattle.lent.specs.Header.{IsClose, InSlot, ClosedBytes, IsCertConf, SentCertConf, FoundBytes, NeverConfirmed, EnrolmentOf, HeaderAgreement, HeaderDemand3}
-use Rattle.lent.proofs.Sent.{issued-sent, sent-map, some-later, some-first, sent-issued}
+use Rattle.lent.specs.Places.{outgoingRecipNonce, transactionId, transactionState, enrolmentId, enrolmentState}
+use Rattle.lent.specs.Header.{IsClose, InSlot, ClosedBytes, SameOutgoing, IsCertConf, SentCertConf, FoundBytes, NeverConfirmed, EnrolmentOf, HeaderAgreement, HeaderDemand3}
+use Rattle.lent.proofs.Sent.{sent-one, issued-sent, sent-map, some-later, some-first, sent-issued}
 use Rattle.lent.proofs.Premises.{closed-at, fair-bytes}
 use Rattle.lent.proofs.Events.{PlainEvent, AllPlain, all-plain}
-use Rattle.lent.proofs.Places.{row, state-at, id-at, sent-at, hash-at, board-at, number-of-state, not-lapsed, held-row, in-use, board-id, board-hash, says, said, shown, held-bytes, bytes-held, id-is}
+use Rattle.lent.proofs.Places.{row, state-at, id-at, sent-at, hash-at, board-at, number-of-state, not-lapsed, held-row, in-use, board-id, board-hash, says, said, state-below, shown, held-bytes, bytes-held, id-is}
 use Rattle.lent.proofs.Theorem.{lent-runs, lent-demand3}
 
 -- ## The claim
@@ -82,23 +82,43 @@ module _ (w : LentWorld) (ok : unpackTable (w .table) .ok ≡ true) (all : Enrol
     abbrev x : BoardEnrolment
     x = shown e
 
-    confirmation-bytes : (u : Outgoing) → Confirmation (worldOf w) x u → SentCertConf w e (u .«recip_nonce» .bytes)
+    -- the certConf that the board sent, in its bytes
+    confirmation-bytes : (u : Outgoing) → Confirmation (worldOf w) x u → (o : List ℕ) × (outgoingOf o ≡ u) × SentCertConf w e o
     unfolding outgoingOf
     confirmation-bytes u c =
-        sent-map (OneBoard (e .board)) (λ v. outgoingOf v ≡ u) (IsCertConf e (u .«recip_nonce» .bytes))
-        (λ v y. (ap (λ (z : Outgoing). z .kind) y ∙ c .kind, ap (λ (z : Outgoing). z .id .bytes) y ∙ ap (λ (i : TransactionId). i .bytes) (c .id) ∙ board-id (e .bytes) o, ap (λ (z : Outgoing). z .«recip_nonce» .bytes) y))
+        sent-one (OneBoard (e .board)) (λ v. outgoingOf v ≡ u) (IsCertConf e)
+        (λ v y. (ap (λ (z : Outgoing). z .kind) y ∙ c .kind, ap (λ (z : Outgoing). z .id .bytes) y ∙ ap (λ (i : TransactionId). i .bytes) (c .id) ∙ board-id (e .bytes) o))
         (w .past) (issued-sent (OneBoard (e .board)) u (w .past) (c .issued))
 
-    only-confirmation : (u : Outgoing) → ((v : Outgoing) → Confirmation (worldOf w) x v → v ≡ u) → (n : List ℕ) → SentCertConf w e n → n ≡ u .«recip_nonce» .bytes
+    bytes-confirmation : (u : List ℕ) → SentCertConf w e u → Confirmation (worldOf w) x (outgoingOf u)
     unfolding outgoingOf
-    only-confirmation u only n c =
-        let q : (v : List ℕ) × IsCertConf e n v × Issued (OneBoard (e .board)) (outgoingOf v) (worldOf w .past) = sent-issued (OneBoard (e .board)) (IsCertConf e n) (w .past) c in
-        let same : outgoingOf (q .0) ≡ u = only (outgoingOf (q .0)) (record { issued = q .2; kind = q .1 .0; id = id-is _ _ (q .1 .1 ∙ sym (board-id (e .bytes) o)) }) in
-        sym (q .1 .2) ∙ ap (λ (z : Outgoing). z .«recip_nonce» .bytes) same
+    bytes-confirmation u c =
+        let q : (v : List ℕ) × ((v ≡ u) × IsCertConf e v) × Issued (OneBoard (e .board)) (outgoingOf v) (worldOf w .past) = sent-issued (OneBoard (e .board)) (λ v. (v ≡ u) × IsCertConf e v) (w .past) c in
+        subst (λ (v : List ℕ). Confirmation (worldOf w) x (outgoingOf v)) (q .1 .0) (record { issued = q .2; kind = q .1 .1 .0; id = id-is _ _ (q .1 .1 .1 ∙ sym (board-id (e .bytes) o)) })
+
+    same-outgoing : (u v : List ℕ) → outgoingOf u ≡ outgoingOf v → SameOutgoing u v
+    unfolding outgoingOf
+    same-outgoing u v h =
+        record {
+          kind = ap (λ (z : Outgoing). z .kind) h;
+          id = ap (λ (z : Outgoing). z .id .bytes) h;
+          senderNonce = ap (λ (z : Outgoing). z .«sender_nonce» .bytes) h;
+          recipNonce = ap (λ (z : Outgoing). z .«recip_nonce» .bytes) h;
+          status = ap (λ (z : Outgoing). z .status) h;
+          hash = ap (λ (z : Outgoing). z .hash .bytes) h;
+        }
 
     -- the transaction of an enrolment, found or closed
     found : (s : TransactionState) → s ≢ at-registrar.Lapsed → FoundUntilClosed (worldOf w) x s → FoundBytes w e (table.stateNumber s)
-    found s d f = (f .0 .«recip_nonce» .bytes, confirmation-bytes (f .0) (f .1), only-confirmation (f .0) (f .2), go (f .3))
+    unfolding outgoingOf
+    found s d f =
+        let q : (v : List ℕ) × (outgoingOf v ≡ f .0) × SentCertConf w e v = confirmation-bytes (f .0) (f .1) in
+        let nonce : f .0 .«recip_nonce» .bytes ≡ outgoingRecipNonce (q .0) = ap (λ (z : Outgoing). z .«recip_nonce» .bytes) (sym (q .1)) in (
+          q .0,
+          q .2,
+          (λ u c. same-outgoing u (q .0) (f .2 (outgoingOf u) (bytes-confirmation u c) ∙ sym (q .1))),
+          subst (λ (n : List ℕ). ClosedBytes (enrolmentId (e .bytes)) n (w .past) ⊎ InSlot (w .table) (e .bytes) n (table.stateNumber s)) nonce (go (f .3)),
+        )
       where
         slot : (r : Transaction) → RegistrarHolds (worldOf w .table) (x .enrolment .id) r → r .sent ≡ f .0 .«recip_nonce» → r .state ≡ s
             → r .hash ≡ x .enrolment .hash → InSlot (w .table) (e .bytes) (f .0 .«recip_nonce» .bytes) (table.stateNumber s)
@@ -161,6 +181,7 @@ module _ (w : LentWorld) (ok : unpackTable (w .table) .ok ≡ true) (all : Enrol
   unfolding enrolment.stateOf
   header =
       record {
+        states = λ k e h. state-below (e .bytes) (held-bytes (w .enrolments) all k e h .1);
         sure = λ k e h n. let q : _ × _ = held-bytes (w .enrolments) all k e h in found e (q .1) at-registrar.Confirmed (not-lapsed _ (λ z. omega arith)) (a .sure k (shown e) (q .0) (says (e .bytes) (q .1) 3 n));
         declined = λ k e h n. let q : _ × _ = held-bytes (w .enrolments) all k e h in found e (q .1) at-registrar.Declined (not-lapsed _ (λ z. omega arith)) (a .declined k (shown e) (q .0) (says (e .bytes) (q .1) 4 n));
         confirmed = confirmed-slot;

@@ -3,7 +3,7 @@ use Prim.Native.Nat.{ℕ, _<_}
 use mathlib.Core.List.{List, [], _∷_}
 use mathlib.Core.Bool.{Bool, true, false, cond}
 use mathlib.Core.Path.{_≡_, refl, sym, _∙_, ap, subst}
-use mathlib.Core.Logic.{inl, _≢_}
+use mathlib.Core.Logic.{inl, inr, _≢_}
 use native.Mathlib.Omega.{arith}
 use lib.ListN.{length, getD, getElem?}
 use lib.Dec.{eqb, leb}
@@ -28,7 +28,7 @@ use Rattle.packed.proofs.AnswerInverse.{registrar-refusal-at, end-entity-refusa
 use Rattle.duskstall.specs.Boundary.{Crossing, boundaryFault, unlessFaulty, registrarWritten, registrarAnswered, registrarCrossing, endEntityWritten, endEntityAnswered, endEntityCrossing, startWritten, startCrossing}
 use Rattle.duskstall.specs.Calls.{idOf, nonceOf}
 use Rattle.lent.specs.Calls.{registrarAnswers, registrarRefusals, EndEntityCall, endEntityAnswers, endEntityRefusals}
-use Rattle.lent.specs.Lent.{LentCall, AtRegistrar, AtEndEntity, EndEntityStart, LentWorld, bytesOf, crossing, isMade}
+use Rattle.lent.specs.Lent.{LentCall, AtRegistrar, AtEndEntity, EndEntityStart, LentWorld, heldBytes, crossing, isMade}
 use Rattle.lent.specs.Kept.{stateLent, answerLent, refusalsOf, MayRepeat, Kept, LentPromise, LentDemand1, KeptByContract}
 use Rattle.lent.proofs.Sizes.{sixteen-in}
 use Rattle.lent.proofs.Forms.{RegistrarForm, registrar-form, EndEntityForm, end-entity-form}
@@ -40,21 +40,25 @@ use Rattle.lent.proofs.Stand.{table-in, enrolment-in}
 
 -- ## A crossing, of the state's bytes s and the answer's bytes b
 
+abbrev codes : List ℕ
+codes = 0 ∷ 1 ∷ 2 ∷ 251 ∷ 252 ∷ 253 ∷ []
+
 -- R: it may answer "again"
 record Keeps (R : Type 0) (ns s b : List ℕ) (x : Crossing) : Type 0 where
+  code : OneOf (x .code) codes
   unchanged : x .code ≢ 0 → x .state ≡ s
   untouched : isMade (x .code) ≡ false → x .answer ≡ b
   number : x .code ≡ 2 → OneOf (getD (x .answer) 1 0) ns
   again : x .code ≡ 1 → R
 
 -- bytes at fault
-at-fault : (R : Type 0) (ns s b : List ℕ) (k : ℕ) → 2 < k → Keeps R ns s b (record { code = k; state = s; answer = b })
-at-fault R ns s b k d = record { unchanged = λ _. refl; untouched = λ _. refl; number = λ e. absurd (omega arith); again = λ e. absurd (omega arith) }
+at-fault : (R : Type 0) (ns s b : List ℕ) (k : ℕ) → OneOf k codes → 2 < k → Keeps R ns s b (record { code = k; state = s; answer = b })
+at-fault R ns s b k c d = record { code = c; unchanged = λ _. refl; untouched = λ _. refl; number = λ e. absurd (omega arith); again = λ e. absurd (omega arith) }
 
 unless-faulty : (R : Type 0) (ns s b : List ℕ) (x : Crossing) (o p r : Bool) → (o ≡ true → r ≡ true → Keeps R ns s b x) → Keeps R ns s b (unlessFaulty (boundaryFault o p r) s b x)
-unless-faulty R ns s b x false p r h = at-fault R ns s b 251 (omega arith)
-unless-faulty R ns s b x true false r h = at-fault R ns s b 252 (omega arith)
-unless-faulty R ns s b x true true false h = at-fault R ns s b 253 (omega arith)
+unless-faulty R ns s b x false p r h = at-fault R ns s b 251 (inr (inr (inr (inl refl)))) (omega arith)
+unless-faulty R ns s b x true false r h = at-fault R ns s b 252 (inr (inr (inr (inr (inl refl))))) (omega arith)
+unless-faulty R ns s b x true true false h = at-fault R ns s b 253 (inr (inr (inr (inr (inr (inl refl)))))) (omega arith)
 unless-faulty R ns s b x true true true h = h refl refl
 
 -- a call that was made
@@ -63,9 +67,9 @@ written : (R : Type 0) (ns s b : List ℕ) (o : Outcome) (s′ b′ : List ℕ)
     → ((n : ℕ) (f : FailureInfo) → o ≡ Refused n f → (s′ ≡ s) × OneOf (getD b′ 1 0) ns)
     → Keeps R ns s b (record { code = outcomeNumber o; state = s′; answer = b′ })
 written R ns s b Done s′ b′ g h =
-    record { unchanged = λ d. absurd (d refl); untouched = λ e. true-false e; number = λ e. absurd (omega arith); again = λ e. absurd (omega arith) }
-written R ns s b Again s′ b′ g h = record { unchanged = λ _. g refl .0; untouched = λ e. true-false e; number = λ e. absurd (omega arith); again = λ _. g refl .1 }
-written R ns s b (Refused n f) s′ b′ g h = record { unchanged = λ _. h n f refl .0; untouched = λ e. true-false e; number = λ _. h n f refl .1; again = λ e. absurd (omega arith) }
+    record { code = inl refl; unchanged = λ d. absurd (d refl); untouched = λ e. true-false e; number = λ e. absurd (omega arith); again = λ e. absurd (omega arith) }
+written R ns s b Again s′ b′ g h = record { code = inr (inl refl); unchanged = λ _. g refl .0; untouched = λ e. true-false e; number = λ e. absurd (omega arith); again = λ _. g refl .1 }
+written R ns s b (Refused n f) s′ b′ g h = record { code = inr (inr (inl refl)); unchanged = λ _. h n f refl .0; untouched = λ e. true-false e; number = λ _. h n f refl .1; again = λ e. absurd (omega arith) }
 
 -- ## The registrar
 
@@ -122,13 +126,13 @@ module _ (a : EndEntityAnswer) (z : EndEntitySized a) (never : a .outcome ≡ Ag
 
 module _ (w : LentWorld) where
   of-keeps : (c : LentCall) → Keeps (MayRepeat c) (refusalsOf c) (stateLent w c) (answerLent c) (crossing w c) → LentPromise w c
-  of-keeps c h = record { unchanged = h .unchanged; untouched = h .untouched; number = h .number; again = h .again }
+  of-keeps c h = record { code = h .code; unchanged = h .unchanged; untouched = h .untouched; number = h .number; again = h .again }
 
   -- an end entity's call does not look at the table
   pub board-promised : (k : ℕ) (c : EndEntityCall) (b : List ℕ) → LentPromise w (AtEndEntity k c b)
   board-promised k c b =
       let f : EndEntityForm c = end-entity-form c in
-      let s : List ℕ = bytesOf (getElem? (w .enrolments) k) in
+      let s : List ℕ = heldBytes (getElem? (w .enrolments) k) in
       of-keeps (AtEndEntity k c b) (subst (Keeps ⊥ (endEntityRefusals c) s b) (sym (f .crosses s b)) (board-keeps (endEntityRefusals c) (endEntityAnswers c) (f .promise) (f .sized) s b (f .args)))
 
   pub start-promised : (d : Board) (s : List ℕ) (k : ℕ) (i n b : List ℕ) → LentPromise w (EndEntityStart d s k i n b)

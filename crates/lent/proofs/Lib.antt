@@ -10,6 +10,7 @@ pub mod OtherBytes
 pub mod Places
 pub mod Premises
 pub mod ReadBack
+pub mod ReadPlaces
 pub mod RegistrarSizes
 pub mod Sent
 pub mod Sizes

@@ -1,22 +1,22 @@
 -- A host that lends other bytes than the last call left.
-use Prim.Native.Nat.{ℕ, zero, suc, _<_}
+use Prim.Native.Nat.{ℕ, zero, suc}
 use mathlib.Core.List.{List, [], _∷_, _++_}
 use mathlib.Core.Bool.{Bool, true, false, cond}
 use mathlib.Core.Option.{Option, none, some}
 use mathlib.Core.Path.{_≡_, refl, sym, _∙_, ap, subst}
-use mathlib.Core.Logic.{_≢_}
-use native.Mathlib.Omega.{arith}
-use lib.ListN.{length, getElem?, set}
+use mathlib.Core.Logic.{_⊎_, inl, inr, _≢_}
+use lib.ListN.{getElem?, set}
 use lib.Dec.{ltb}
+use Rattle.protocol.specs.declared.Board.{Board}
 use Rattle.protocol.proofs.Tests.{none-some}
 use Rattle.packed.specs.Bytes.{AllBytes}
 use Rattle.packed.proofs.TableInverse.{pack-unpacked}
 use Rattle.duskstall.specs.Boundary.{Crossing}
-use Rattle.lent.specs.Lent.{LentCall, AtRegistrar, AtEndEntity, EndEntityStart, LentEnrolment, LentWorld, bytesOf, crossing}
+use Rattle.lent.specs.Lent.{LentCall, AtRegistrar, AtEndEntity, EndEntityStart, LentEnrolment, LentWorld, heldBytes, crossing}
 use Rattle.lent.specs.Lent.{enrolmentLent, lentStep, lentAfter, lentBeginning}
 use Rattle.lent.specs.Kept.{LentPromise, stateLent}
 use Rattle.lent.specs.Header.{FairBytes, HeaderAgreement}
-use Rattle.lent.specs.OtherBytes.{InEnrolment, placeOf, withBytes, lendAt, lending, lentBy, hostStep, hostAfter, callsOf, AllAsLeft, HostRuns, HostDemand3, asLeft, EveryListAsLeft, Lends, rewritten, OnlyThere, HostOnAnyBytes}
+use Rattle.lent.specs.OtherBytes.{InEnrolment, statePlace, withBytes, lendAt, lending, lentBy, hostStep, hostAfter, callsOf, AllAsLeft, HostRuns, HostDemand3, asLeft, EveryListAsLeft, Lends, rewritten, OnlyThere, HostOnAnyBytes}
 use Rattle.lent.proofs.Stand.{set-same}
 use Rattle.lent.proofs.Kept.{board-promised, start-promised, promised}
 use Rattle.lent.proofs.ReadBack.{lent-reads}
@@ -37,18 +37,13 @@ module _ {A : Type 0} where
   set-elsewhere (e ∷ es) (suc k) zero x d = refl
   set-elsewhere (e ∷ es) (suc k) (suc p) x d = set-elsewhere es k p x (λ q. d (ap suc q))
 
-  before-end : (es fs : List A) (p : ℕ) → p < length es → getElem? (es ++ fs) p ≡ getElem? es p
-  before-end [] fs p h = absurd (omega arith)
-  before-end (e ∷ es) fs zero h = refl
-  before-end (e ∷ es) fs (suc p) h = before-end es fs p (omega arith)
-
 -- ## Bytes as they were left
 
-with-same : (es : List LentEnrolment) (k : ℕ) (o : Option LentEnrolment) → getElem? es k ≡ o → withBytes es k o (bytesOf o) ≡ es
+with-same : (es : List LentEnrolment) (k : ℕ) (o : Option LentEnrolment) → getElem? es k ≡ o → withBytes es k o (heldBytes o) ≡ es
 with-same es k none h = refl
 with-same es k (some e) h = set-same es k e h
 
-same-enrolment : (w : LentWorld) (k : ℕ) → lendAt w (InEnrolment k) (bytesOf (getElem? (w .enrolments) k)) ≡ w
+same-enrolment : (w : LentWorld) (k : ℕ) → lendAt w (InEnrolment k) (heldBytes (getElem? (w .enrolments) k)) ≡ w
 same-enrolment w k = ap (λ (es : List LentEnrolment). record { table = w .table; enrolments = es; past = w .past }) (with-same (w .enrolments) k (getElem? (w .enrolments) k) refl)
 
 lent-same : (w : LentWorld) (c : LentCall) → lending w c (stateLent w c) ≡ w
@@ -132,19 +127,20 @@ module _ (w : LentWorld) (c : LentCall) (k : ℕ) (s : List ℕ) (x : Crossing) 
     there (getElem? (w .enrolments) k) refl,
   )
 
-not-added : (b : Bool) (es : List LentEnrolment) (e : LentEnrolment) (p : ℕ) → p < length es → getElem? (cond b (es ++ (e ∷ [])) es) p ≡ getElem? es p
-not-added true es e p h = before-end es (e ∷ []) p h
-not-added false es e p h = refl
+added : (c : Bool) (es : List LentEnrolment) (b : Board) (s : List ℕ)
+    → (cond c (es ++ (record { board = b; bytes = s } ∷ [])) es ≡ es) ⊎ ((d : Board) × (cond c (es ++ (record { board = b; bytes = s } ∷ [])) es ≡ es ++ (record { board = d; bytes = s } ∷ [])))
+added true es b s = inr (b, refl)
+added false es b s = inl refl
 
-others : (w : LentWorld) (c : LentCall) (s : List ℕ) → OnlyThere w (lentStep (lending w c s) c) (placeOf c) (crossing (lending w c s) c)
+others : (w : LentWorld) (c : LentCall) (s : List ℕ) → OnlyThere w (lentStep (lending w c s) c) (statePlace c) (crossing (lending w c s) c)
 unfolding lentStep
 others w (AtRegistrar c b) s = (refl, refl)
 others w (AtEndEntity k c b) s = only-enrolment w (AtEndEntity k c b) k s (crossing (lending w (AtEndEntity k c b) s) (AtEndEntity k c b))
-others w (EndEntityStart d e k i n b) s = let x : Crossing = crossing w (EndEntityStart d e k i n b) in (refl, (λ p h. not-added (ltb (x .code) 2) (w .enrolments) _ p h))
+others w (EndEntityStart d e k i n b) s = let x : Crossing = crossing w (EndEntityStart d e k i n b) in (refl, added (ltb (x .code) 2) (w .enrolments) d (x .state))
 
-found : (w : LentWorld) (c : LentCall) (s : List ℕ) → Lends w (placeOf c) → stateLent (lending w c s) c ≡ s
+found : (w : LentWorld) (c : LentCall) (s : List ℕ) → Lends w (statePlace c) → stateLent (lending w c s) c ≡ s
 found w (AtRegistrar c b) s l = refl
-found w (AtEndEntity k c b) s l = ap bytesOf (with-there (w .enrolments) k s (l .0) (l .1))
+found w (AtEndEntity k c b) s l = ap heldBytes (with-there (w .enrolments) k s (l .0) (l .1))
 found w (EndEntityStart d e k i n b) s l = absurd l
 
 kept : (w : LentWorld) (c : LentCall) (s : List ℕ) → AllBytes s → LentPromise (lending w c s) c

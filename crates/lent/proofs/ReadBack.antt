@@ -2,7 +2,7 @@
 use Prim.Native.Nat.{ℕ}
 use mathlib.Core.List.{List}
 use mathlib.Core.Bool.{Bool, true, cond, _&&_}
-use mathlib.Core.Path.{_≡_, sym, _∙_, ap, subst}
+use mathlib.Core.Path.{_≡_, refl, sym, _∙_, ap, subst}
 use borrow.Author.Tests.{eq-eqb}
 use lib.ListN.{length, getElem?}
 use lib.Dec.{eqb, leb}
@@ -23,8 +23,8 @@ use Rattle.packed.proofs.AnswerInverse.{registrar-back, end-entity-back, end-en
 use Rattle.duskstall.specs.Boundary.{Crossing, registrarWritten, registrarAnswered, registrarCrossing, endEntityWritten, endEntityAnswered, endEntityCrossing, startWritten, startCrossing}
 use Rattle.duskstall.specs.Calls.{idOf, nonceOf}
 use Rattle.lent.specs.Calls.{registrarCrosses, registrarAnswers, endEntityCrosses, endEntityAnswers}
-use Rattle.lent.specs.Lent.{AtRegistrar, AtEndEntity, EndEntityStart, LentWorld, bytesOf, isMade, lentAfter, lentBeginning, made}
-use Rattle.lent.specs.Reads.{registrarRead, endEntityRead, StartReads, tableIn, LentReads, LentSound}
+use Rattle.lent.specs.Lent.{AtRegistrar, AtEndEntity, EndEntityStart, LentWorld, heldBytes, isMade, lentAfter, lentBeginning, made}
+use Rattle.lent.specs.Reads.{RegistrarReads, EndEntityReads, StartReads, tableIn, enrolmentIn, LentReads, LentSound}
 use Rattle.lent.proofs.Sizes.{sixteen-in}
 use Rattle.lent.proofs.Forms.{RegistrarForm, registrar-form, EndEntityForm, end-entity-form}
 use Rattle.lent.proofs.RegistrarSizes.{RegistrarSized}
@@ -36,25 +36,25 @@ use Rattle.lent.proofs.Kept.{promised}
 use Rattle.lent.proofs.Theorem.{stands}
 
 registrar-reads : (p : Bool) (f : TransactionTable → RegistrarAnswer) (s b : List ℕ) → ((t : TransactionTable) → TableSized t → RegistrarSized (f t))
-    → isMade (registrarCrossing p f s b .code) ≡ true → registrarRead (registrarCrossing p f s b) ≡ f (unpackTable s .table)
+    → isMade (registrarCrossing p f s b .code) ≡ true → RegistrarReads (registrarCrossing p f s b) (f (unpackTable s .table))
 unfolding registrarAnswered
 registrar-reads p f s b sized m =
     let a : RegistrarAnswer = f (unpackTable s .table) in
-    made-of (λ x. registrarRead x ≡ a) (unpackTable s .ok) p (leb registrarAnswerBytes (length b)) s b (registrarWritten a s b)
+    made-of (λ x. RegistrarReads x a) (unpackTable s .ok) p (leb registrarAnswerBytes (length b)) s b (registrarWritten a s b)
     (λ o _ r.
     let z : RegistrarSized a = sized (unpackTable s .table) (table-sized s o) in
-    registrar-back a b (z .outgoing) r (z .outcome) (z .slot) _ (ap (λ (u : UnpackedTable). u .table) (table-read (a .table) (z .table) (table-in s (a .table) o))))
+    record { code = refl; answer = registrar-back a b (z .outgoing) r (z .outcome) (z .slot) _ (ap (λ (u : UnpackedTable). u .table) (table-read (a .table) (z .table) (table-in s (a .table) o))) })
     m
 
 board-reads : (p : Bool) (f : Enrolment → EndEntityAnswer) (s b : List ℕ) → ((x : Enrolment) → Sized x → EndEntitySized (f x))
-    → isMade (endEntityCrossing p f s b .code) ≡ true → endEntityRead (endEntityCrossing p f s b) ≡ f (unpackEnrolment s .enrolment)
+    → isMade (endEntityCrossing p f s b .code) ≡ true → EndEntityReads (endEntityCrossing p f s b) (f (unpackEnrolment s .enrolment))
 unfolding endEntityAnswered
 board-reads p f s b sized m =
     let a : EndEntityAnswer = f (unpackEnrolment s .enrolment) in
-    made-of (λ x. endEntityRead x ≡ a) (unpackEnrolment s .ok) p (leb endEntityAnswerBytes (length b)) s b (endEntityWritten a s b)
+    made-of (λ x. EndEntityReads x a) (unpackEnrolment s .ok) p (leb endEntityAnswerBytes (length b)) s b (endEntityWritten a s b)
     (λ o _ r.
     let z : EndEntitySized a = sized (unpackEnrolment s .enrolment) (enrolment-sized s o) in
-    end-entity-back a b (z .outgoing) r (z .outcome) _ (ap (λ (u : UnpackedEnrolment). u .enrolment) (enrolment-read (a .enrolment) (z .enrolment) (enrolment-in s (a .enrolment) o))))
+    record { code = refl; answer = end-entity-back a b (z .outgoing) r (z .outcome) _ (ap (λ (u : UnpackedEnrolment). u .enrolment) (enrolment-read (a .enrolment) (z .enrolment) (enrolment-in s (a .enrolment) o))) })
     m
 
 start-state : (a : EndEntityAnswer) (s : List ℕ) → eqb (length s) enrolmentBytes ≡ true → outcomeNumber (a .outcome) ≡ 0
@@ -68,6 +68,7 @@ start-reads p a s b z =
     made-of (λ x. StartReads x a) (eqb (length s) enrolmentBytes) p (leb endEntityAnswerBytes (length b)) s b (startWritten a s b)
     (λ o _ r.
     record {
+      code = refl;
       outcome = end-entity-outcome-back a b (z .outgoing) r (z .outcome);
       fault = end-entity-fault-back a b (z .outgoing) r;
       sends = end-entity-sends-back a b (z .outgoing) r;
@@ -79,12 +80,12 @@ pub lent-reads : LentReads
 lent-reads w (AtRegistrar c b) m =
     let f : RegistrarForm c = registrar-form c in
     let e : registrarCrosses c (w .table) b ≡ registrarCrossing (f .args) (registrarAnswers c) (w .table) b = f .crosses (w .table) b in
-    ap registrarRead e ∙ registrar-reads (f .args) (registrarAnswers c) (w .table) b (f .sized) (subst (λ (x : Crossing). isMade (x .code) ≡ true) e m)
+    subst (λ (x : Crossing). RegistrarReads x (registrarAnswers c (tableIn w))) (sym e) (registrar-reads (f .args) (registrarAnswers c) (w .table) b (f .sized) (subst (λ (x : Crossing). isMade (x .code) ≡ true) e m))
 lent-reads w (AtEndEntity k c b) m =
     let f : EndEntityForm c = end-entity-form c in
-    let s : List ℕ = bytesOf (getElem? (w .enrolments) k) in
+    let s : List ℕ = heldBytes (getElem? (w .enrolments) k) in
     let e : endEntityCrosses c s b ≡ endEntityCrossing (f .args) (endEntityAnswers c) s b = f .crosses s b in
-    ap endEntityRead e ∙ board-reads (f .args) (endEntityAnswers c) s b (f .sized) (subst (λ (x : Crossing). isMade (x .code) ≡ true) e m)
+    subst (λ (x : Crossing). EndEntityReads x (endEntityAnswers c (enrolmentIn w k))) (sym e) (board-reads (f .args) (endEntityAnswers c) s b (f .sized) (subst (λ (x : Crossing). isMade (x .code) ≡ true) e m))
 lent-reads w (EndEntityStart d s k i n b) m = start-reads (unpack16 i .ok && unpack16 n .ok) (endEntityStart k (idOf i) (nonceOf n)) s b (start-sized k (idOf i) (nonceOf n) (sixteen-in i) (sixteen-in n)) m
 
 -- ## After any list of calls: nothing is supposed of the bytes

@@ -61,6 +61,12 @@ sent-map p P Q f [] h = absurd h
 sent-map p P Q f (e ∷ es) (inl x) = inl (x .0, (x .1 .0, x .1 .1, f (outgoingIn e) (x .1 .2)))
 sent-map p P Q f (e ∷ es) (inr x) = inr (sent-map p P Q f es x)
 
+-- one that was sent, by its bytes
+pub sent-one : (p : End) (P Q : List ℕ → Type 0) → ((u : List ℕ) → P u → Q u) → (es : List LentEvent) → Sent p P es → (o : List ℕ) × P o × Sent p (λ u. (u ≡ o) × Q u) es
+sent-one p P Q f [] h = absurd h
+sent-one p P Q f (e ∷ es) (inl x) = (outgoingIn e, x .1 .2, inl (x .0, (x .1 .0, x .1 .1, (refl, f (outgoingIn e) (x .1 .2)))))
+sent-one p P Q f (e ∷ es) (inr x) = let q : (o : List ℕ) × P o × Sent p (λ u. (u ≡ o) × Q u) es = sent-one p P Q f es x in (q .0, q .1, inr (q .2))
+
 pub some-later : (P : Event → Type 0) (e : LentEvent) (es : List LentEvent) → Some P (eventsOf es) → Some P (eventsOf (e ∷ es))
 unfolding eventsOf
 some-later P e es x = cases (Some P) (isMade (e .code)) _ _ (λ _. inr x) (λ _. x)

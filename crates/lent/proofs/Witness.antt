@@ -26,7 +26,7 @@ use Rattle.duskstall.specs.Boundary.{Crossing, yes, startCrossing}
 use Rattle.lent.specs.Calls.{RegistrarMessage, RegistrarIssue, EndEntityMessage}
 use Rattle.lent.specs.Lent.{LentCall, AtRegistrar, AtEndEntity, EndEntityStart, callOf, LentEnrolment, LentWorld, enrolmentsOf, crossing, isMade, lentStep, lentAfter, lentBeginning, made, worldOf, enrolmentLent}
 use Rattle.lent.specs.Made.{Fits}
-use Rattle.lent.specs.Places.{enrolmentState}
+use Rattle.lent.specs.Places.{enrolmentState, outgoingRecipNonce}
 use Rattle.lent.specs.Header.{FairBytes, IsClose, ClosedBytes, FoundBytes, HeaderAgreement}
 use Rattle.lent.specs.Witness.{lentEnrols, LentEnds, LentWitnesses}
 use Rattle.lent.proofs.Events.{Adds, call-adds}
@@ -177,7 +177,7 @@ module _ (s : List ℕ) (e : length s ≡ tableBytes) (accept : ℕ) (confirm : 
         let state : enrolmentState (g .0 .bytes) ≡ stateNumber b = said (g .0 .bytes) (h .1) b (says-state (worldOf l₆) (shown (g .0)) b (h .0) (ap boardSays same ∙ ends-in .says)) in
         let agrees : HeaderAgreement l₆ = header-demand3 s e (lentEnrols accept confirm) fair in
         let f : FoundBytes l₆ (g .0) (stateNumber b) = find (g .0) agrees (g .1) state in
-        record { fair = fair; agrees = agrees; held = g .0; holds = g .1; says = state; nonce = f .0; slot = open-slot (f .3) (not-closed _ _) }
+        record { fair = fair; agrees = agrees; held = g .0; holds = g .1; says = state; nonce = outgoingRecipNonce (f .0); slot = open-slot (f .3) (not-closed _ _) }
 
 pub lent-witnesses : LentWitnesses
 lent-witnesses =

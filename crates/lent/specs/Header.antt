@@ -114,20 +114,29 @@ abbrev pub ClosedBytes : (id nonce : List ℕ) → List LentEvent → Type 0
 ClosedBytes i n [] = ⊥
 ClosedBytes i n (e ∷ past) = (Taken e × IsClose i (e .call) × Sent TheRegistrar (λ o. outgoingSenderNonce o ≡ n) past) ⊎ ClosedBytes i n past
 
--- a certConf for the enrolment, with this recipNonce; its board sent one
-abbrev pub IsCertConf : LentEnrolment → (nonce outgoing : List ℕ) → Type 0
-IsCertConf e n o = (outgoingKind o ≡ 24) × (outgoingId o ≡ enrolmentId (e .bytes)) × (outgoingRecipNonce o ≡ n)
+-- the bytes u and o say that the same is to be sent
+pub record SameOutgoing (u o : List ℕ) : Type 0 where
+  pub kind : outgoingKind u ≡ outgoingKind o
+  pub id : outgoingId u ≡ outgoingId o
+  pub senderNonce : outgoingSenderNonce u ≡ outgoingSenderNonce o
+  pub recipNonce : outgoingRecipNonce u ≡ outgoingRecipNonce o
+  pub status : outgoingStatus u ≡ outgoingStatus o
+  pub hash : outgoingHash u ≡ outgoingHash o
 
-abbrev pub SentCertConf : LentWorld → LentEnrolment → (nonce : List ℕ) → Type 0
-SentCertConf w e n = Sent (OneBoard (e .board)) (IsCertConf e n) (w .past)
+-- "the board's certConf", for its enrolment: the board sent o
+abbrev pub IsCertConf : LentEnrolment → (outgoing : List ℕ) → Type 0
+IsCertConf e o = (outgoingKind o ≡ 24) × (outgoingId o ≡ enrolmentId (e .bytes))
 
--- "the one whose response nonce the board's certConf carried as recipNonce" is closed, or in this state with the enrolment's hash
+abbrev pub SentCertConf : LentWorld → LentEnrolment → (outgoing : List ℕ) → Type 0
+SentCertConf w e o = Sent (OneBoard (e .board)) (λ u. (u ≡ o) × IsCertConf e u) (w .past)
+
+-- it sent one; "the one whose response nonce the board's certConf carried as recipNonce" is closed, or in this state with the enrolment's hash
 abbrev pub FoundBytes : LentWorld → LentEnrolment → (state : ℕ) → Type 0
 FoundBytes w e k =
-    (n : List ℕ)
-    × SentCertConf w e n
-    × ((u : List ℕ) → SentCertConf w e u → u ≡ n)
-    × (ClosedBytes (enrolmentId (e .bytes)) n (w .past) ⊎ InSlot (w .table) (e .bytes) n k)
+    (o : List ℕ)
+    × SentCertConf w e o
+    × ((u : List ℕ) → SentCertConf w e u → SameOutgoing u o)
+    × (ClosedBytes (enrolmentId (e .bytes)) (outgoingRecipNonce o) (w .past) ⊎ InSlot (w .table) (e .bytes) (outgoingRecipNonce o) k)
 
 -- at no point a slot with the id was Confirmed
 abbrev pub NeverConfirmed : List ℕ → List LentEvent → Type 0
@@ -150,6 +159,8 @@ pub record EnrolmentOf (w : LentWorld) (p : ℕ) : Type 0 where
 -- "an end entity that is Sure has its transaction Confirmed with the same hash, one that is Declined has it Declined, until it is closed; where
 -- a transaction is Confirmed, its end entity holds the same hash and is Sure, Confirming or Unsettled; one that Failed never had it so"
 pub record HeaderAgreement (w : LentWorld) : Type 0 where
+  -- the seven states of an enrolment: the rest is Confirming, Declining or Unsettled
+  pub states : (k : ℕ) (e : LentEnrolment) → getElem? (w .enrolments) k ≡ some e → enrolmentState (e .bytes) < 7
   pub sure : (k : ℕ) (e : LentEnrolment) → getElem? (w .enrolments) k ≡ some e → enrolmentState (e .bytes) ≡ 3 → FoundBytes w e 3
   pub declined : (k : ℕ) (e : LentEnrolment) → getElem? (w .enrolments) k ≡ some e → enrolmentState (e .bytes) ≡ 4 → FoundBytes w e 4
   pub confirmed : (p : ℕ) → p < capacity → transactionState p (w .table) ≡ 3 → EnrolmentOf w p

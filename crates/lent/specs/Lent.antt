@@ -61,14 +61,14 @@ abbrev pub lentBeginning : List ℕ → LentWorld
 lentBeginning s = record { table = packTableIn emptyTable s; enrolments = []; past = [] }
 
 -- where no start made an enrolment, no bytes are lent
-abbrev pub bytesOf : Option LentEnrolment → List ℕ
-bytesOf none = []
-bytesOf (some e) = e .bytes
+abbrev pub heldBytes : Option LentEnrolment → List ℕ
+heldBytes none = []
+heldBytes (some e) = e .bytes
 
 -- what the call returns and leaves in the lent bytes
 abbrev pub crossing : LentWorld → LentCall → Crossing
 crossing w (AtRegistrar c a) = registrarCrosses c (w .table) a
-crossing w (AtEndEntity k c a) = endEntityCrosses c (bytesOf (getElem? (w .enrolments) k)) a
+crossing w (AtEndEntity k c a) = endEntityCrosses c (heldBytes (getElem? (w .enrolments) k)) a
 crossing w (EndEntityStart b s k i n a) = endEntityStartCrossing k i n s a
 
 abbrev pub registrarLent : LentWorld → LentCall → Crossing → LentWorld

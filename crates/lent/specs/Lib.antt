@@ -7,6 +7,7 @@ pub mod Lent
 pub mod Made
 pub mod OtherBytes
 pub mod Places
+pub mod ReadPlaces
 pub mod Reads
 pub mod SlotBytes
 pub mod Witness

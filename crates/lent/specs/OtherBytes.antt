@@ -1,11 +1,12 @@
 -- A host that may lend other bytes than the last call left: what it must do for demand 3, and what holds whatever it lends.
-use Prim.Native.Nat.{ℕ, _<_}
-use mathlib.Core.List.{List, [], _∷_}
+use Prim.Native.Nat.{ℕ}
+use mathlib.Core.List.{List, [], _∷_, _++_}
 use mathlib.Core.Bool.{true}
 use mathlib.Core.Option.{Option, none, some}
 use mathlib.Core.Path.{_≡_}
-use mathlib.Core.Logic.{_≢_}
+use mathlib.Core.Logic.{_⊎_, _≢_}
 use lib.ListN.{length, getElem?, set}
+use Rattle.protocol.specs.declared.Board.{Board}
 use Rattle.packed.specs.Bytes.{AllBytes}
 use Rattle.packed.specs.Table.{tableBytes}
 use Rattle.duskstall.specs.Boundary.{Crossing}
@@ -22,10 +23,10 @@ pub data StatePlace : Type 0 where
   InTable : StatePlace
   InEnrolment : (place : ℕ) → StatePlace
 
-abbrev pub placeOf : LentCall → StatePlace
-placeOf (AtRegistrar c a) = InTable
-placeOf (AtEndEntity k c a) = InEnrolment k
-placeOf (EndEntityStart b s k i n a) = InCall
+abbrev pub statePlace : LentCall → StatePlace
+statePlace (AtRegistrar c a) = InTable
+statePlace (AtEndEntity k c a) = InEnrolment k
+statePlace (EndEntityStart b s k i n a) = InCall
 
 -- the enrolment at a place, if one is there, has these bytes
 abbrev pub withBytes : List LentEnrolment → ℕ → Option LentEnrolment → List ℕ → List LentEnrolment
@@ -39,7 +40,7 @@ lendAt w InTable s = record { table = s; enrolments = w .enrolments; past = w .p
 lendAt w (InEnrolment k) s = record { table = w .table; enrolments = withBytes (w .enrolments) k (getElem? (w .enrolments) k) s; past = w .past }
 
 abbrev pub lending : LentWorld → LentCall → List ℕ → LentWorld
-lending w c s = lendAt w (placeOf c) s
+lending w c s = lendAt w (statePlace c) s
 
 -- ## Calls of such a host
 
@@ -111,9 +112,11 @@ abbrev pub rewritten : Option LentEnrolment → List ℕ → Option LentEnrolmen
 rewritten none s = none
 rewritten (some e) s = some (record { board = e .board; bytes = s })
 
--- from w to v a call wrote x in its state's place, and left every other byte as it was
+-- from w to v a call wrote x in its state's place, and left every other byte as it was; a start left all enrolments, and may have added one
 abbrev pub OnlyThere : (w v : LentWorld) → StatePlace → Crossing → Type 0
-OnlyThere w v InCall x = (v .table ≡ w .table) × ((p : ℕ) → p < length (w .enrolments) → getElem? (v .enrolments) p ≡ getElem? (w .enrolments) p)
+OnlyThere w v InCall x =
+    (v .table ≡ w .table)
+    × ((v .enrolments ≡ w .enrolments) ⊎ ((b : Board) × (v .enrolments ≡ w .enrolments ++ (record { board = b; bytes = x .state } ∷ []))))
 OnlyThere w v InTable x = (v .table ≡ x .state) × (v .enrolments ≡ w .enrolments)
 OnlyThere w v (InEnrolment k) x =
     (v .table ≡ w .table)
@@ -122,13 +125,13 @@ OnlyThere w v (InEnrolment k) x =
 
 pub record OnAnyBytes (w : LentWorld) (h : HostCall) : Type 0 where
   -- the call finds the bytes that are lent
-  pub found : Lends w (placeOf (h .call)) → stateLent (lentBy w h) (h .call) ≡ h .state
+  pub found : Lends w (statePlace (h .call)) → stateLent (lentBy w h) (h .call) ≡ h .state
   -- only one that is done changes them; one that is not made changes no byte; a refusal has its number
   pub promise : LentPromise (lentBy w h) (h .call)
   -- its answer is that of the call on what they stand for
   pub reads : isMade (crossing (lentBy w h) (h .call) .code) ≡ true → ReadsBack (lentBy w h) (h .call)
   -- no other bytes change
-  pub others : OnlyThere w (hostStep w h) (placeOf (h .call)) (crossing (lentBy w h) (h .call))
+  pub others : OnlyThere w (hostStep w h) (statePlace (h .call)) (crossing (lentBy w h) (h .call))
 
 -- w: whatever the calls before did with whatever was lent to them
 abbrev pub HostOnAnyBytes : Type 0

@@ -12,13 +12,13 @@ use Rattle.protocol.specs.EndEntity.{endEntityStart}
 use Rattle.protocol.specs.Promises.{AtMostOne, AllUnsetZero}
 use Rattle.packed.specs.Bytes.{flagAt}
 use Rattle.packed.specs.Outgoing.{outgoingOf}
-use Rattle.packed.specs.Answer.{outcomeOf, faultOf, registrarAnswerOf, endEntityAnswerOf}
+use Rattle.packed.specs.Answer.{outcomeNumber, outcomeOf, faultOf, registrarAnswerOf, endEntityAnswerOf}
 use Rattle.packed.specs.Table.{tableBytes, unpackTable}
 use Rattle.packed.specs.Enrolment.{unpackEnrolment}
 use Rattle.duskstall.specs.Boundary.{Crossing}
 use Rattle.duskstall.specs.Calls.{idOf, nonceOf}
 use Rattle.lent.specs.Calls.{registrarAnswers, endEntityAnswers}
-use Rattle.lent.specs.Lent.{LentCall, AtRegistrar, AtEndEntity, EndEntityStart, LentWorld, bytesOf, crossing, isMade, lentAfter, lentBeginning}
+use Rattle.lent.specs.Lent.{LentCall, AtRegistrar, AtEndEntity, EndEntityStart, LentWorld, heldBytes, crossing, isMade, lentAfter, lentBeginning}
 use Rattle.lent.specs.Kept.{LentPromise}
 
 abbrev pub registrarRead : Crossing → RegistrarAnswer
@@ -31,10 +31,20 @@ abbrev pub tableIn : LentWorld → TransactionTable
 tableIn w = unpackTable (w .table) .table
 
 abbrev pub enrolmentIn : LentWorld → ℕ → Enrolment
-enrolmentIn w k = unpackEnrolment (bytesOf (getElem? (w .enrolments) k)) .enrolment
+enrolmentIn w k = unpackEnrolment (heldBytes (getElem? (w .enrolments) k)) .enrolment
+
+-- what a call returned, and what it left in the bytes, say the answer
+pub record RegistrarReads (x : Crossing) (a : RegistrarAnswer) : Type 0 where
+  pub code : x .code ≡ outcomeNumber (a .outcome)
+  pub answer : registrarRead x ≡ a
+
+pub record EndEntityReads (x : Crossing) (a : EndEntityAnswer) : Type 0 where
+  pub code : x .code ≡ outcomeNumber (a .outcome)
+  pub answer : endEntityRead x ≡ a
 
 -- of a start; one that is refused leaves no enrolment to read
 pub record StartReads (x : Crossing) (a : EndEntityAnswer) : Type 0 where
+  pub code : x .code ≡ outcomeNumber (a .outcome)
   pub outcome : outcomeOf (x .answer) ≡ a .outcome
   pub fault : faultOf (x .answer) ≡ a .fault
   pub sends : flagAt 13 (x .answer) ≡ a .sends
@@ -42,8 +52,8 @@ pub record StartReads (x : Crossing) (a : EndEntityAnswer) : Type 0 where
   pub enrolment : x .code ≡ 0 → unpackEnrolment (x .state) .enrolment ≡ a .enrolment
 
 abbrev pub ReadsBack : LentWorld → LentCall → Type 0
-ReadsBack w (AtRegistrar c a) = registrarRead (crossing w (AtRegistrar c a)) ≡ registrarAnswers c (tableIn w)
-ReadsBack w (AtEndEntity k c a) = endEntityRead (crossing w (AtEndEntity k c a)) ≡ endEntityAnswers c (enrolmentIn w k)
+ReadsBack w (AtRegistrar c a) = RegistrarReads (crossing w (AtRegistrar c a)) (registrarAnswers c (tableIn w))
+ReadsBack w (AtEndEntity k c a) = EndEntityReads (crossing w (AtEndEntity k c a)) (endEntityAnswers c (enrolmentIn w k))
 ReadsBack w (EndEntityStart b s k i n a) = StartReads (crossing w (EndEntityStart b s k i n a)) (endEntityStart k (idOf i) (nonceOf n))
 
 -- on any bytes at all
