@@ -9,7 +9,7 @@ use mathlib.Core.Option.{Option, none, some}
 use native.Mathlib.Omega.{arith}
 use borrow.Author.Tests.{eqb-true}
 use lib.ListN.{length, take, drop, length-take, length-drop}
-use lib.Seq.{take-take}
+use lib.Seq.{take-take, take-all}
 use lib.Dec.{eqb}
 use Rattle.der.specs.Head.{headOf}
 use Rattle.der.specs.declared.head.Head.{Head}
@@ -256,6 +256,12 @@ stands-one m a n s =
       head = s .head;
       ends = omega (arith, s .from, s .to, s .end, length-take (n .to - n .at) (drop (n .at) m), length-drop (n .at) m);
     }
+
+-- a message that ends with the bytes is one element
+pub root-one : (m : List ℕ) {n : Node} → walk m message ≡ some n → n .at ≡ 0 → n .to ≡ length m → OneElement (n .tag) m
+root-one m {n} e a z =
+    let all : bytesOf m (spanFrom (n .at) (n .to)) ≡ m = rw (a, z) (take-all (length m - 0) m (omega arith)) in
+    subst (OneElement (n .tag)) all (stands-one m 0 n (subst (Maybe m 0) e (walk-stands m message)))
 
 -- what a path inside the message leads to is one element
 pub one-at : (m : List ℕ) (p : Path) → deep p ≡ true → {n : Node} → walk m p ≡ some n → OneElement (n .tag) (bytesOf m (spanFrom (n .at) (n .to)))

@@ -12,9 +12,9 @@ use Rattle.grammar.specs.declared.Message.{Message}
 use Rattle.message.specs.declared.Reading.the-variants.{Clean}
 use Rattle.message.specs.Read.{readingOf}
 use Rattle.paths.specs.Walk.{walk}
-use Rattle.paths.specs.Walk.Step.{any}
+use Rattle.paths.specs.Walk.Step.{any, option, only}
 use Rattle.paths.specs.Walk.Path.{message, _▸_}
-use Rattle.paths.specs.Table.{SEQUENCE, context, primitive, Part, Number, placeOf, pathIn, pathOf, statusInfo, entryList, handed, told}
+use Rattle.paths.specs.Table.{BIT-STRING, SEQUENCE, context, primitive, Part, Number, placeOf, pathIn, pathOf, statusInfo, entryList, handed, told}
 use Rattle.paths.specs.Table.{spanAt, numberAt, lengthAt, found, sizeAt, tagOf}
 
 -- ## Every part in its place
@@ -34,6 +34,10 @@ pub record InPlace (m : List ℕ) (x : Message) : Type 0 where
   pub entries : x .contents .entries ≡ sizeAt m (walk m entryList)
   -- the kind is the number of the body's tag
   pub kind : tagOf (walk m (message ▸ any 1)) ≡ context (x .contents .kind)
+  -- protection and extraCerts are handed back with their tags: where there is one, it holds a BIT STRING, a SEQUENCE, and no other
+  -- element
+  pub bits : found (walk m (message ▸ option 2 (context 0) ▸ only BIT-STRING)) ≡ found (walk m (message ▸ option 2 (context 0)))
+  pub certs : found (walk m (message ▸ option 2 (context 1) ▸ only SEQUENCE)) ≡ found (walk m (message ▸ option 2 (context 1)))
 
 -- THE THEOREM: `as-the-standard-says` in proofs/Theorem.antt
 abbrev pub AsTheStandardSays : Type 0
@@ -72,6 +76,8 @@ abbrev pub OneIfThere : ℕ → List ℕ → Span → Type 0
 OneIfThere tag m s = s .start .0 ≢ 0 → OneElement tag (bytesOf m s)
 
 pub record WholeElements (m : List ℕ) (x : Message) : Type 0 where
+  -- the message itself: nothing stands before it or after it
+  pub message : OneElement SEQUENCE m
   -- what every message has
   pub header : OneElement SEQUENCE (bytesOf m (x .header))
   pub body : OneElement (context (x .contents .kind)) (bytesOf m (x .body))
