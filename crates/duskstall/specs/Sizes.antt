@@ -9,8 +9,8 @@ use Rattle.packed.specs.Enrolment.{enrolmentBytes}
 use Rattle.packed.specs.Answer.{registrarAnswerBytes, endEntityAnswerBytes}
 
 -- 0 a table, 1 an enrolment, 2 a registrar's answer, 3 an end entity's answer, 4 the numbers of a reading, 5 the longest message; else 0
-abbrev pub sizeOf : ℕ → ℕ
-sizeOf n =
+abbrev pub lentSize : ℕ → ℕ
+lentSize n =
     cond (eqb n 0) tableBytes
     (cond (eqb n 1) enrolmentBytes
     (cond (eqb n 2) registrarAnswerBytes

@@ -13,7 +13,7 @@ use packed::enrolment::ENROLMENT_BYTES;
 use packed::table::TABLE_BYTES;
 ghost use mathlib.Core.Path.{_≡_};
 ghost use Rattle.fields.specs.Fields.{checkAnswer, readAnswer, readFields};
-ghost use Rattle.duskstall.specs.Sizes.{sizeOf};
+ghost use Rattle.duskstall.specs.Sizes.{lentSize};
 
 // Whether all of `bytes` is whole DER elements, at most 16 deep. 0: yes; else the first fault's offset times 8 plus its rule;
 // 7, which is no rule, where there are more than 4,294,967,295 bytes.
@@ -37,7 +37,7 @@ pub extern "C" fn duskstall_read(message: &[u8], fields: &mut [u64]) -> u64
 // entity's, 4 how many numbers a reading has, 5 the longest message. 0 for any other number.
 #[no_mangle]
 pub extern "C" fn duskstall_size(what: u8) -> u64
-    ensures { λ r. ⌜ r ≡ sizeOf what ⌝ }
+    ensures { λ r. ⌜ r ≡ lentSize what ⌝ }
 {
     if what == 0 {
         return TABLE_BYTES as u64;

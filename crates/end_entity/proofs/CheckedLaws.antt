@@ -9,7 +9,7 @@ use lib.ListN.{length}
 use lib.Dec.{eqb}
 use Rattle.grammar.specs.declared.Message.{Message}
 use Rattle.message.specs.Read.{readingOf}
-use Rattle.message.specs.declared.Fault.{Fault}
+use Rattle.message.specs.declared.ReadFault.{ReadFault}
 use Rattle.message.specs.declared.Reading.{Reading}
 use Rattle.message.specs.declared.Reading.the-variants as read
 use Rattle.protocol.specs.declared.Nonce.{Nonce}
@@ -19,8 +19,8 @@ use Rattle.protocol.specs.declared.EndEntityAnswer.{EndEntityAnswer}
 use Rattle.protocol.specs.declared.EndEntityInput.{EndEntityInput}
 use Rattle.protocol.specs.Bytes.{asNonce, bytesOf}
 use Rattle.protocol.specs.Message.{Fields, fieldsOf, optionalPart, partOf, isPresent, statusOr0}
-use Rattle.protocol.specs.States.{assured, broken}
-use Rattle.protocol.specs.Refusals.{Row, Check, check, pass, notSixteen}
+use Rattle.protocol.specs.States.{assured, brokenState}
+use Rattle.protocol.specs.Refusals.{Row, LowestRow, lowestRow, pass, notSixteen}
 use Rattle.protocol.specs.EndEntityRows.{endEntityRows}
 use Rattle.protocol.specs.EndEntity.{enrolmentRefused, enrolmentUnread, enrolmentMoved, inState, afterRefusal, confirming, endEntityChecked, endEntityRead, endEntityMessage}
 use Rattle.protocol.proofs.Tests.{true-false, not-false, passes}
@@ -34,11 +34,11 @@ module _ (x : Enrolment) (d : EndEntityInput) (m : Fields) where
   abbrev rows : List Row
   rows = endEntityRows x (d .good) m
 
-  pub refused-by : (k : ℕ) → k ≡ numberOf (check rows) → (k ≡ 0 → ⊥) → enrolmentRefused k (afterRefusal k m x) ≡ endEntityChecked (check rows) x d m
+  pub refused-by : (k : ℕ) → k ≡ numberOf (lowestRow rows) → (k ≡ 0 → ⊥) → enrolmentRefused k (afterRefusal k m x) ≡ endEntityChecked (lowestRow rows) x d m
   unfolding endEntityChecked
-  refused-by k e n = rw (row-laws.stops-at (check rows) k e n)
+  refused-by k e n = rw (row-laws.stops-at (lowestRow rows) k e n)
 
-  pub passes-all : 0 ≡ numberOf (check rows) → check rows ≡ pass
+  pub passes-all : 0 ≡ numberOf (lowestRow rows) → lowestRow rows ≡ pass
   unfolding endEntityRows allPositive
   passes-all e = row-laws.passes-all rows refl e
 
@@ -51,7 +51,7 @@ module _ (x : Enrolment) (d : EndEntityInput) (m : Fields) where
   unfolding endEntityChecked
   acknowledged k = rw k
 
-  pub reported : m .kind ≡ 23 → Answers (enrolmentMoved (inState x (broken (x .state))))
+  pub reported : m .kind ≡ 23 → Answers (enrolmentMoved (inState x (brokenState (x .state))))
   unfolding endEntityChecked
   reported k = rw k
 
@@ -67,15 +67,15 @@ module _ (x : Enrolment) (d : EndEntityInput) (m : Fields) where
 -- ## The response's nonce
 
 -- row 5 did not apply
-pub answered : (x : Enrolment) (d : EndEntityInput) (bytes : List ℕ) (m : Message) (n : Nonce) → 0 ≡ numberOf (check (endEntityRows x (d .good) (fieldsOf bytes m))) → n .bytes ≡ sixteenOf (partOf bytes (m .fields .«sender_nonce»)) → n ≡ asNonce (fieldsOf bytes m .senderNonce)
+pub answered : (x : Enrolment) (d : EndEntityInput) (bytes : List ℕ) (m : Message) (n : Nonce) → 0 ≡ numberOf (lowestRow (endEntityRows x (d .good) (fieldsOf bytes m))) → n .bytes ≡ sixteenOf (partOf bytes (m .header .«sender_nonce»)) → n ≡ asNonce (fieldsOf bytes m .senderNonce)
 unfolding fieldsOf endEntityRows
 answered x d bytes m n e q =
-    let s : notSixteen (optionalPart bytes (m .fields .«sender_nonce»)) ≡ false = passes 5 _ (passes-all x d (fieldsOf bytes m) e) in
-    let p : n .bytes ≡ bytesOf (optionalPart bytes (m .fields .«sender_nonce»)) = q ∙ copy-is bytes (m .fields .«sender_nonce») s in
+    let s : notSixteen (optionalPart bytes (m .header .«sender_nonce»)) ≡ false = passes 5 _ (passes-all x d (fieldsOf bytes m) e) in
+    let p : n .bytes ≡ bytesOf (optionalPart bytes (m .header .«sender_nonce»)) = q ∙ copy-is bytes (m .header .«sender_nonce») s in
     λ i. record { bytes = p i }
 
 -- ## A message that does not read
 
-pub unread-at : (x : Enrolment) (d : EndEntityInput) (bytes : List ℕ) (r : Reading) (f : Fault) → r ≡ read.Refused f → r ≡ readingOf bytes → enrolmentUnread (faultOf r) x ≡ endEntityMessage x d bytes
+pub unread-at : (x : Enrolment) (d : EndEntityInput) (bytes : List ℕ) (r : Reading) (f : ReadFault) → r ≡ read.Refused f → r ≡ readingOf bytes → enrolmentUnread (faultOf r) x ≡ endEntityMessage x d bytes
 unfolding endEntityMessage endEntityRead
 unread-at x d bytes r f e q = rw (← q, e)

@@ -4,7 +4,7 @@ use crate::states::decision_status;
 use grammar::Offset;
 use incoming::rows::bit_of;
 use incoming::rows::read_refusal;
-use message::Fault;
+use message::ReadFault;
 use protocol::EndEntityAnswer;
 use protocol::EndEntityInput;
 use protocol::Enrolment;
@@ -21,10 +21,10 @@ ghost use Rattle.protocol.specs.Refusals.{noFault};
 ghost use Rattle.protocol.specs.Outgoing.{requestOut, certConfOut};
 ghost use Rattle.protocol.specs.EndEntity.{enrolmentRefused, enrolmentUnread, enrolmentMoved, inState, startedEnrolment, noEnrolment, confirmedEnrolment, confirming};
 
-pub(crate) fn no_fault() -> Fault
+pub(crate) fn no_fault() -> ReadFault
     ensures { λ r. ⌜ r ≡ noFault ⌝ }
 {
-    Fault {
+    ReadFault {
         number: 0,
         at: Offset(0),
         rule: 0,
@@ -45,7 +45,7 @@ pub(crate) fn refused(number: u8, enrolment: Enrolment) -> EndEntityAnswer
 }
 
 // The bytes do not read.
-pub(crate) fn unread(enrolment: Enrolment, fault: Fault) -> EndEntityAnswer
+pub(crate) fn unread(enrolment: Enrolment, fault: ReadFault) -> EndEntityAnswer
     ensures { λ r. ⌜ r ≡ enrolmentUnread fault enrolment ⌝ }
 {
     let number = read_refusal(fault);

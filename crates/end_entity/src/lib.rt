@@ -13,7 +13,7 @@ use crate::answers::started;
 use crate::answers::unread;
 use crate::rows::ERROR;
 use crate::rows::PKI_CONF;
-use crate::rows::refusal;
+use crate::rows::lowest_refusal;
 use crate::states::assured_state;
 use crate::states::broken_state;
 use crate::states::is_awaiting;
@@ -34,7 +34,7 @@ use protocol::kinds::is_enrolment_kind;
 ghost use mathlib.Core.Path.{_≡_};
 ghost use Rattle.protocol.specs.Bytes.{asNonce};
 ghost use Rattle.protocol.specs.Message.{Fields, fieldsOf, statusOr0};
-ghost use Rattle.protocol.specs.Refusals.{pass, check};
+ghost use Rattle.protocol.specs.Refusals.{pass, lowestRow};
 ghost use Rattle.protocol.specs.EndEntityRows.{endEntityRows};
 ghost use Rattle.protocol.specs.EndEntity.{endEntityStart, afterRefusal, endEntityChecked, endEntityMessage, endEntityTimeOut};
 
@@ -86,23 +86,17 @@ fn taken(
 
 // A message that reads: refused by the table's lowest row, or taken.
 fn checked(enrolment: Enrolment, bytes: &[u8], m: Message, input: EndEntityInput) -> EndEntityAnswer
-    ensures { λ r. ⌜ r ≡ endEntityChecked (check (endEntityRows enrolment (input .good) (fieldsOf (now (bytes .entry)) m))) enrolment input (fieldsOf (now (bytes .entry)) m) ⌝ }
+    ensures { λ r. ⌜ r ≡ endEntityChecked (lowestRow (endEntityRows enrolment (input .good) (fieldsOf (now (bytes .entry)) m))) enrolment input (fieldsOf (now (bytes .entry)) m) ⌝ }
 {
-    let number = refusal(enrolment, bytes, m, input.good);
+    let number = lowest_refusal(enrolment, bytes, m, input.good);
     if number != 0 {
         return refused(number, after_refusal(number, bytes, m, enrolment));
     }
-    let fields = m.fields;
-    let contents = m.contents;
-    let entry = contents.entry;
-    let answered = nonce_of(bytes, fields.sender_nonce);
-    taken(
-        enrolment,
-        input,
-        contents.kind,
-        status_or_0(entry),
-        answered,
-    )
+    let header = m.header;
+    let body = m.body;
+    let entry = body.entry;
+    let answered = nonce_of(bytes, header.sender_nonce);
+    taken(enrolment, input, body.kind, status_or_0(entry), answered)
 }
 
 // A message, with what the host says of it.

@@ -21,7 +21,7 @@ ghost use lib.Dec.{eqb};
 ghost use Rattle.protocol.specs.Bytes.{isId, isNonce};
 ghost use Rattle.protocol.specs.Message.{isResponse, pkiConf, errorKind, responseTo, requestNumber, isPresent, optionalPart, fieldsOf};
 ghost use Rattle.protocol.specs.States.{isWaiting, isConfirming};
-ghost use Rattle.protocol.specs.Refusals.{check};
+ghost use Rattle.protocol.specs.Refusals.{lowestRow};
 ghost use Rattle.protocol.specs.EndEntityRows.{endEntityRows};
 ghost use Rattle.incoming.specs.Incoming.{numberOf};
 
@@ -167,15 +167,15 @@ fn no_certificate(kind: u8, status: u32, certificate: Span) -> bool
 }
 
 // The lowest row of the table that applies; 0 where none does.
-pub(crate) fn refusal(enrolment: Enrolment, message: &[u8], m: Message, good: bool) -> u8
-    ensures { λ r. ⌜ r ≡ numberOf (check (endEntityRows enrolment good (fieldsOf (now (message .entry)) m))) ⌝ }
+pub(crate) fn lowest_refusal(enrolment: Enrolment, message: &[u8], m: Message, good: bool) -> u8
+    ensures { λ r. ⌜ r ≡ numberOf (lowestRow (endEntityRows enrolment good (fieldsOf (now (message .entry)) m))) ⌝ }
 {
     let state = enrolment.state;
-    let fields = m.fields;
-    let contents = m.contents;
-    let entry = contents.entry;
-    let kind = contents.kind;
-    let entries = contents.entries;
+    let header = m.header;
+    let body = m.body;
+    let entry = body.entry;
+    let kind = body.kind;
+    let entries = body.entries;
     let status = status_or_0(entry);
     let head = head_refusal(message, m, good);
     if head != 0 {
@@ -184,10 +184,10 @@ pub(crate) fn refusal(enrolment: Enrolment, message: &[u8], m: Message, good: bo
     if other_answer(kind, enrolment.kind) {
         return 8;
     }
-    if other_id(message, fields.transaction_id, enrolment.id) {
+    if other_id(message, header.transaction_id, enrolment.id) {
         return 12;
     }
-    if other_nonce(message, fields.recip_nonce, enrolment.last) {
+    if other_nonce(message, header.recip_nonce, enrolment.last) {
         return 14;
     }
     if not_one_response(kind, entries) {

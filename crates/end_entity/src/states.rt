@@ -2,7 +2,7 @@
 use protocol::EnrolmentState;
 ghost use mathlib.Core.Path.{_≡_};
 ghost use mathlib.Core.Bool.{_||_};
-ghost use Rattle.protocol.specs.States.{isWaiting, isConfirming, broken, assured, decided, decision};
+ghost use Rattle.protocol.specs.States.{isWaiting, isConfirming, brokenState, assured, decided, decision};
 
 // Whether a response is awaited.
 pub(crate) fn is_waiting(state: EnrolmentState) -> bool
@@ -46,7 +46,7 @@ pub(crate) fn is_awaiting(state: EnrolmentState) -> bool
 
 // Where an error or a time out leads.
 pub(crate) fn broken_state(state: EnrolmentState) -> EnrolmentState
-    ensures { λ r. ⌜ r ≡ broken state ⌝ }
+    ensures { λ r. ⌜ r ≡ brokenState state ⌝ }
 {
     match state {
         EnrolmentState::Asked => EnrolmentState::Failed,

@@ -79,13 +79,13 @@ putProtected m l = putNumber 46 (protectedLength m) l
 
 unfoldable pub putMessage : Message → List ℕ → List ℕ
 putMessage m l =
-    let l1 : List ℕ = putSpan 3 4 (m .header) l in
-    let l2 : List ℕ = putSpan 5 6 (m .body) l1 in
+    let l1 : List ℕ = putSpan 3 4 (m .«header_span») l in
+    let l2 : List ℕ = putSpan 5 6 (m .«body_span») l1 in
     let l3 : List ℕ = putSpan 7 8 (m .protection) l2 in
     let l4 : List ℕ = putSpan 9 10 (m .«extra_certs») l3 in
-    let l5 : List ℕ = putNames (m .fields) l4 in
-    let l6 : List ℕ = putIds (m .fields) l5 in
-    let l7 : List ℕ = putBody (m .contents) l6 in
+    let l5 : List ℕ = putNames (m .header) l4 in
+    let l6 : List ℕ = putIds (m .header) l5 in
+    let l7 : List ℕ = putBody (m .body) l6 in
     putProtected m l7
 
 -- ## The answer

@@ -13,7 +13,7 @@ ghost use Rattle.fields.specs.Fields.{checkAnswer, readAnswer, readField
 // How many numbers there are.
 pub const FIELDS: usize = 47;
 
-fn small(x: u8) -> u64
+fn widened(x: u8) -> u64
     ensures { λ r. ⌜ r ≡ x ⌝ }
 {
     x as u64
@@ -30,7 +30,7 @@ pub fn check_number(bytes: &[u8]) -> u64
     let c = check_elements(bytes);
     match c {
         Check::Sound => 0,
-        Check::Fault(at, rule) => at as u64 * 8 + small(rule),
+        Check::Fault(at, rule) => at as u64 * 8 + widened(rule),
     }
 }
 
@@ -52,7 +52,7 @@ pub fn read_into(message: &[u8], fields: &mut [u64]) -> u64
             let at = fault.at;
             put_size(fields, 0, at.0);
             put_small(fields, 1, fault.rule);
-            small(fault.number)
+            widened(fault.number)
         }
     }
 }

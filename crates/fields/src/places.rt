@@ -106,12 +106,12 @@ fn put_protected(fields: &mut [u64], m: Message)
 pub(crate) fn put_message(fields: &mut [u64], m: Message)
     ensures { λ _. ⌜ now (fields .exit) ≡ putMessage m (now (fields .entry)) ⌝ }
 {
-    put_span(fields, 3, 4, m.header);
-    put_span(fields, 5, 6, m.body);
+    put_span(fields, 3, 4, m.header_span);
+    put_span(fields, 5, 6, m.body_span);
     put_span(fields, 7, 8, m.protection);
     put_span(fields, 9, 10, m.extra_certs);
-    put_names(fields, m.fields);
-    put_ids(fields, m.fields);
-    put_body(fields, m.contents);
+    put_names(fields, m.header);
+    put_ids(fields, m.header);
+    put_body(fields, m.body);
     put_protected(fields, m);
 }

@@ -132,7 +132,7 @@ pub record BodyIn (a b : ℕ) (k : Body) : Type 0 where
   pub entry : EntryIn a b (k .entry)
 
 -- every span of a body lies in the bytes of its element
-pub body-in : (m : List ℕ) (c : Cursor) → Ok (bodyOf m c .cur) → BodyIn (c .at) (bodyOf m c .cur .at) (bodyOf m c .contents)
+pub body-in : (m : List ℕ) (c : Cursor) → Ok (bodyOf m c .cur) → BodyIn (c .at) (bodyOf m c .cur .at) (bodyOf m c .body)
 unfolding bodyOf
 body-in m c k =
     let t : Cursor = bodyTag m c in

@@ -12,11 +12,11 @@ use Rattle.grammar.specs.declared.entries.Entries.{Entries}
 use Rattle.grammar.specs.declared.entries.EntryKind.{EntryKind}
 use Rattle.grammar.specs.declared.entries.EntryKind.the-variants as of
 use Rattle.grammar.specs.Cursor.{isOk, moreAt}
-use Rattle.grammar.specs.Entries.{requestOf, responseOf, statusEntry, entryOf, next}
+use Rattle.grammar.specs.Entries.{requestOf, responseOf, certStatusOf, entryOf, next}
 use Rattle.grammar.proofs.CursorLaws.{Moved, moved-need, moved-leave}
 
 pub moved-entry : (m : List ℕ) (what : EntryKind) (c : Cursor) → Moved c (entryOf m what c .cur)
-unfolding entryOf requestOf responseOf statusEntry
+unfolding entryOf requestOf responseOf certStatusOf
 moved-entry m of.Request c = moved-leave _ (moved-need m 0x30 c)
 moved-entry m of.Response c = moved-leave _ (moved-need m 0x30 c)
 moved-entry m of.Status c = moved-leave _ (moved-need m 0x30 c)

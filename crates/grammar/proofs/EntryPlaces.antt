@@ -12,9 +12,9 @@ use Rattle.grammar.specs.declared.entries.Item.{Item}
 use Rattle.grammar.specs.declared.entries.Entries.{Entries}
 use Rattle.grammar.specs.declared.entries.EntryKind.{EntryKind}
 use Rattle.grammar.specs.declared.entries.EntryKind.the-variants as of
-use Rattle.grammar.specs.Cursor.{tagAt, needOf, anyOf, noneOf, maybeOf, doneOf, enterOf, leaveOf, smallOf, leftAt}
+use Rattle.grammar.specs.Cursor.{tagAt, needOf, anyOf, noneOf, maybeOf, doneOf, enterOf, leaveOf, smallIntegerOf, leftAt}
 use Rattle.grammar.specs.Parts.{anyField, typedField, statusOf, maybeStatus}
-use Rattle.grammar.specs.Entries.{noEntry, requestOf, choiceOf, keyPair, maybeKeyPair, responseOf, statusEntry, entryOf, noEntries, next, entriesOf, onlyOf}
+use Rattle.grammar.specs.Entries.{noEntry, requestOf, choiceOf, keyPair, maybeKeyPair, responseOf, certStatusOf, entryOf, noEntries, next, entriesOf, onlyOf}
 use Rattle.grammar.proofs.Places.{Ok, wide, On, Went, Took, Steps, Takes, still, _then_, took-went, steps, need-takes, none-steps, maybe-steps, small-takes, ended, left, at-leave, Nest, nest, found-steps, repeat-keeps, Placed, took-kept}
 use Rattle.grammar.proofs.PartPlaces.{Between, no-span, whole-span, found-span, status-takes, maybe-status-goes, typed-field-steps}
 
@@ -57,7 +57,7 @@ pub entry-wide : {a b a′ b′ : ℕ} {e : Entry} → a′ ≤ a → b ≤ b′
 entry-wide h k w = record { certHash = wide h k (w .certHash); hashAlg = wide h k (w .hashAlg); certificate = wide h k (w .certificate); request = wide h k (w .request) }
 
 pub entry-takes : (m : List ℕ) (what : EntryKind) (c : Cursor) → Takes c (entryOf m what c .cur)
-unfolding entryOf requestOf responseOf statusEntry
+unfolding entryOf requestOf responseOf certStatusOf
 entry-takes m of.Request c = at-leave (Took c) _ (need-takes m 0x30 c)
 entry-takes m of.Response c = at-leave (Took c) _ (need-takes m 0x30 c)
 entry-takes m of.Status c = at-leave (Took c) _ (need-takes m 0x30 c)
@@ -70,7 +70,7 @@ request-in : (m : List ℕ) (c : Cursor) → ItemIn c (requestOf m c)
 unfolding requestOf
 request-in m c k =
     let s : Cursor = needOf m 0x30 c in
-    let l = left s (leaveOf (needOf m 0x30 (enterOf s)) (smallOf m (enterOf (needOf m 0x30 (enterOf s))))) k in
+    let l = left s (leaveOf (needOf m 0x30 (enterOf s)) (smallIntegerOf m (enterOf (needOf m 0x30 (enterOf s))))) k in
     let t : Took c s = need-takes m 0x30 c (subst Ok (l .1) k) in
     record { certHash = no-span; hashAlg = no-span; certificate = no-span; request = whole-span (omega arith) (t .along .on) (omega (arith, ap (λ (j : Cursor). j .at) (l .1))) }
 
@@ -78,7 +78,7 @@ response-in : (m : List ℕ) (c : Cursor) → ItemIn c (responseOf m c)
 unfolding responseOf
 response-in m c k =
     let s : Cursor = needOf m 0x30 c in
-    let n : Cursor = smallOf m (enterOf s) in
+    let n : Cursor = smallIntegerOf m (enterOf s) in
     let i : Cursor = statusOf m n .cur in
     let q : Cursor = maybeKeyPair m i in
     let x : Cursor = maybeOf m 0x04 q in
@@ -93,12 +93,12 @@ response-in m c k =
     let high : q .at ≤ leaveOf s (doneOf x) .at = omega (arith, wx .along .on, v .to, v .took .high, b) in
     record { certHash = no-span; hashAlg = no-span; certificate = found-span (omega arith) high wq; request = no-span }
 
-status-in : (m : List ℕ) (c : Cursor) → ItemIn c (statusEntry m c)
-unfolding statusEntry
+status-in : (m : List ℕ) (c : Cursor) → ItemIn c (certStatusOf m c)
+unfolding certStatusOf
 status-in m c k =
     let s : Cursor = needOf m 0x30 c in
     let h : Cursor = needOf m 0x04 (enterOf s) in
-    let n : Cursor = smallOf m h in
+    let n : Cursor = smallIntegerOf m h in
     let i : Cursor = maybeStatus m n .cur in
     let a : Cursor = typedField m 0xA0 i in
     let l = left s (doneOf a) k in

@@ -50,17 +50,17 @@ Next e s = ((startOf s ≡ 0) × (s .len ≡ 0)) ⊎ (startOf s ≡ e)
 -- the spans of the body in the body. No part begins at 0 (`absent-at-0`). The header is followed by the body,
 -- and so on up to the message's end.
 pub record FoundIn (n : ℕ) (f : Message) : Type 0 where
-  pub header : Inside (spanFrom 0 n) (f .header)
-  pub body : Inside (spanFrom 0 n) (f .body)
+  pub headerSpan : Inside (spanFrom 0 n) (f .«header_span»)
+  pub bodySpan : Inside (spanFrom 0 n) (f .«body_span»)
   pub protection : Inside (spanFrom 0 n) (f .protection)
   pub extraCerts : Inside (spanFrom 0 n) (f .«extra_certs»)
-  pub fields : HeaderIn (startOf (f .header)) (endOf (f .header)) (f .fields)
-  pub contents : BodyIn (startOf (f .body)) (endOf (f .body)) (f .contents)
-  pub above : 0 < startOf (f .header)
-  pub bodyNext : endOf (f .header) ≡ startOf (f .body)
-  pub protectionNext : Next (endOf (f .body)) (f .protection)
-  pub extraNext : Next (endOf (f .body) + f .protection .len) (f .«extra_certs»)
-  pub filled : endOf (f .body) + f .protection .len + f .«extra_certs» .len ≡ n
+  pub header : HeaderIn (startOf (f .«header_span»)) (endOf (f .«header_span»)) (f .header)
+  pub body : BodyIn (startOf (f .«body_span»)) (endOf (f .«body_span»)) (f .body)
+  pub above : 0 < startOf (f .«header_span»)
+  pub bodyNext : endOf (f .«header_span») ≡ startOf (f .«body_span»)
+  pub protectionNext : Next (endOf (f .«body_span»)) (f .protection)
+  pub extraNext : Next (endOf (f .«body_span») + f .protection .len) (f .«extra_certs»)
+  pub filled : endOf (f .«body_span») + f .protection .len + f .«extra_certs» .len ≡ n
 
 -- ## An optional element with its tag
 
@@ -147,12 +147,12 @@ found-in m k =
     let xl : outerSpan p x .len ≡ x .at - p .at = outer-len p x (e .0) (sequence-field-bare m 0xA1 Certificate p) in
     let bp : startOf (wholeSpan (h .cur) (b .cur)) + wholeSpan (h .cur) (b .cur) .len + outerSpan (b .cur) p .len ≡ p .at = omega arith in
     record {
-      header = whole-span (omega arith) n2 (omega arith);
-      body = whole-span (omega arith) n3 (omega arith);
+      headerSpan = whole-span (omega arith) n2 (omega arith);
+      bodySpan = whole-span (omega arith) n3 (omega arith);
       protection = outer-in (b .cur) p (omega arith) n4 (omega arith);
       extraCerts = outer-in p x (omega arith) n5 (omega arith);
-      fields = rw hh (header-in m c (tb .along .ok));
-      contents = rw bb (body-in m (h .cur) (wp .along .ok));
+      header = rw hh (header-in m c (tb .along .ok));
+      body = rw bb (body-in m (h .cur) (wp .along .ok));
       above = n1;
       bodyNext = hh;
       protectionNext = rw bb (outer-next (b .cur) p);

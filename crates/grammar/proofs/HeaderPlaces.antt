@@ -10,7 +10,7 @@ use Rattle.grammar.specs.declared.parts.Each.the-variants.{Text, Info}
 use Rattle.grammar.specs.declared.pki_header.Names.{Names}
 use Rattle.grammar.specs.declared.pki_header.Options.{Options}
 use Rattle.grammar.specs.declared.pki_header.Ids.{Ids}
-use Rattle.grammar.specs.Cursor.{tagAt, needOf, doneOf, enterOf, leaveOf, smallOf}
+use Rattle.grammar.specs.Cursor.{tagAt, needOf, doneOf, enterOf, leaveOf, smallIntegerOf}
 use Rattle.grammar.specs.Parts.{fieldOf, typedField, sequenceField}
 use Rattle.grammar.specs.Header.{nameTag, nameOf, namesOf, optionsOf, idsOf, headerOf}
 use Rattle.grammar.proofs.CursorLaws.{untrue}
@@ -31,7 +31,7 @@ pub record NamesIn (c : Cursor) (n : Names) : Type 0 where
 pub names-in : (m : List ℕ) (c : Cursor) → Ok (namesOf m c .cur) → NamesIn c (namesOf m c)
 unfolding namesOf
 names-in m c k =
-    let v : Cursor = smallOf m c in
+    let v : Cursor = smallIntegerOf m c in
     let s : Cursor = nameOf m v in
     let r : Cursor = nameOf m s in
     let tr : Took s r = name-takes m s k in
@@ -129,7 +129,7 @@ unfolding headerOf
 header-takes m c = at-leave (Took c) _ (need-takes m 0x30 c)
 
 -- every span of a header lies in the bytes of its element
-pub header-in : (m : List ℕ) (c : Cursor) → Ok (headerOf m c .cur) → HeaderIn (c .at) (headerOf m c .cur .at) (headerOf m c .fields)
+pub header-in : (m : List ℕ) (c : Cursor) → Ok (headerOf m c .cur) → HeaderIn (c .at) (headerOf m c .cur .at) (headerOf m c .header)
 unfolding headerOf
 header-in m c k =
     let s : Cursor = needOf m 0x30 c in

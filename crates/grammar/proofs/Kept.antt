@@ -5,7 +5,7 @@ use Rattle.grammar.specs.declared.cursor.Cursor.{Cursor}
 use Rattle.grammar.specs.declared.parts.Each.{Each}
 use Rattle.grammar.specs.declared.parts.Each.the-variants.{Text, Info}
 use Rattle.grammar.specs.declared.entries.EntryKind.{EntryKind}
-use Rattle.grammar.specs.Cursor.{needOf, anyOf, noneOf, maybeOf, restOf, doneOf, enterOf, smallOf}
+use Rattle.grammar.specs.Cursor.{needOf, anyOf, noneOf, maybeOf, restOf, doneOf, enterOf, smallIntegerOf}
 use Rattle.grammar.specs.Parts.{typedOf, oneOf, allBy, sequenceBy, sequenceOf, fieldOf, typedField, anyField, sequenceField, maybeText, failInfoOf, statusOf, maybeStatus}
 use Rattle.grammar.specs.Header.{nameOf, namesOf, optionsOf, idsOf, headerOf}
 use Rattle.grammar.specs.Entries.{choiceOf, keyPair, maybeKeyPair, entryOf, entriesOf}
@@ -53,7 +53,7 @@ module _ (m : List ℕ) (tag inner kind : ℕ) (each : Each) (what : EntryKind) 
       ∷ restOf m
       ∷ doneOf
       ∷ enterOf
-      ∷ smallOf m
+      ∷ smallIntegerOf m
       ∷ typedOf m
       ∷ oneOf m each
       ∷ allBy (oneOf m each)

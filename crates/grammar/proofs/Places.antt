@@ -11,7 +11,7 @@ use Rattle.der.specs.declared.head.Head.{Head}
 use Rattle.der.specs.declared.head.Head.the-variants.{Bad, Whole}
 use Rattle.der.proofs.HeadLaws.{cond-both, cond-case}
 use Rattle.grammar.specs.declared.cursor.Cursor.{Cursor}
-use Rattle.grammar.specs.Cursor.{isOk, headIn, tagAt, pastOf, ifTag, needOf, anyOf, noneOf, maybeOf, restOf, doneOf, enterOf, leaveOf, smallOf, moreAt, repeat}
+use Rattle.grammar.specs.Cursor.{isOk, headIn, tagAt, pastOf, ifTag, needOf, anyOf, noneOf, maybeOf, restOf, doneOf, enterOf, leaveOf, smallIntegerOf, moreAt, repeat}
 use Rattle.grammar.specs.Parts.{foundOf}
 use Rattle.grammar.proofs.CursorLaws.{head-in-parent, untrue}
 
@@ -101,8 +101,8 @@ pub rest-steps : (m : List ℕ) (c : Cursor) → Steps c (restOf m c)
 unfolding restOf
 rest-steps m c = cond-case (Steps c) (ltb (c .at) (c .end)) (steps (any-takes m c)) (none-steps c)
 
-pub small-takes : (m : List ℕ) (c : Cursor) → Takes c (smallOf m c)
-unfolding smallOf
+pub small-takes : (m : List ℕ) (c : Cursor) → Takes c (smallIntegerOf m c)
+unfolding smallIntegerOf
 small-takes m c = cond-case (Takes c) (ltb 4 (needOf m 0x02 c .to - needOf m 0x02 c .from)) untrue (need-takes m 0x02 c)
 
 -- ## In, at the end, and out again

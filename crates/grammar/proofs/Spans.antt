@@ -15,26 +15,26 @@ use Rattle.grammar.proofs.Found.{startOf, endOf, Inside, Next, FoundIn}
 -- the four parts, the header's eleven spans, caPubs and the entry's four
 unfoldable pub spansOf : Message → List Span
 spansOf f =
-    f .header
-    ∷ f .body
+    f .«header_span»
+    ∷ f .«body_span»
     ∷ f .protection
     ∷ f .«extra_certs»
-    ∷ f .fields .sender
-    ∷ f .fields .recipient
-    ∷ f .fields .«message_time»
-    ∷ f .fields .«protection_alg»
-    ∷ f .fields .«sender_kid»
-    ∷ f .fields .«recip_kid»
-    ∷ f .fields .«transaction_id»
-    ∷ f .fields .«sender_nonce»
-    ∷ f .fields .«recip_nonce»
-    ∷ f .fields .«free_text»
-    ∷ f .fields .«general_info»
-    ∷ f .contents .«ca_pubs»
-    ∷ f .contents .entry .«cert_hash»
-    ∷ f .contents .entry .«hash_alg»
-    ∷ f .contents .entry .certificate
-    ∷ f .contents .entry .request
+    ∷ f .header .sender
+    ∷ f .header .recipient
+    ∷ f .header .«message_time»
+    ∷ f .header .«protection_alg»
+    ∷ f .header .«sender_kid»
+    ∷ f .header .«recip_kid»
+    ∷ f .header .«transaction_id»
+    ∷ f .header .«sender_nonce»
+    ∷ f .header .«recip_nonce»
+    ∷ f .header .«free_text»
+    ∷ f .header .«general_info»
+    ∷ f .body .«ca_pubs»
+    ∷ f .body .entry .«cert_hash»
+    ∷ f .body .entry .«hash_alg»
+    ∷ f .body .entry .certificate
+    ∷ f .body .entry .request
     ∷ []
 
 -- P holds of each of a list
@@ -66,15 +66,15 @@ lift-next s h k i (inr p) = lift h (omega arith) i
 pub spans-between : {n : ℕ} {f : Message} → FoundIn n f → All (Between 1 n) (spansOf f)
 unfolding spansOf
 spans-between {n} {f} w =
-    let h = w .fields in
-    let c = w .contents in
-    let head : Between 1 n (f .header) = lift (omega arith) (w .above) (w .header) in
-    let body : Between 1 n (f .body) = lift (omega arith) (omega (arith, w .above, w .bodyNext)) (w .body) in
-    let after : 0 < endOf (f .body) = omega (arith, w .above, w .bodyNext) in
+    let h = w .header in
+    let c = w .body in
+    let head : Between 1 n (f .«header_span») = lift (omega arith) (w .above) (w .headerSpan) in
+    let body : Between 1 n (f .«body_span») = lift (omega arith) (omega (arith, w .above, w .bodyNext)) (w .bodySpan) in
+    let after : 0 < endOf (f .«body_span») = omega (arith, w .above, w .bodyNext) in
     head
     & body
     & lift-next (f .protection) (omega arith) after (w .protection) (w .protectionNext)
-    & lift-next {e = endOf (f .body) + f .protection .len} (f .«extra_certs») (omega arith) (omega arith) (w .extraCerts) (w .extraNext)
+    & lift-next {e = endOf (f .«body_span») + f .protection .len} (f .«extra_certs») (omega arith) (omega arith) (w .extraCerts) (w .extraNext)
     & through head (h .sender)
     & through head (h .recipient)
     & through head (h .messageTime)

@@ -98,5 +98,5 @@ bodyOf m c =
     let i : Contents = contentsOf m kind (enterOf b) in
     record {
       cur = leaveOf b (doneOf (i .cur));
-      contents = record { kind = kind; entries = i .entries; «ca_pubs» = i .«ca_pubs»; entry = i .entry };
+      body = record { kind = kind; entries = i .entries; «ca_pubs» = i .«ca_pubs»; entry = i .entry };
     }

@@ -97,8 +97,8 @@ unfoldable pub valueOf : List ℕ → Cursor → ℕ
 valueOf m c = signed32 (contentOf m c)
 
 -- an INTEGER of at most four content bytes ("pvno, certReqId and status of more than four content bytes: refusal 2")
-unfoldable pub smallOf : List ℕ → Cursor → Cursor
-smallOf m c = let n : Cursor = needOf m 0x02 c in cond (ltb 4 (n .to - n .from)) (faultAt c) n
+unfoldable pub smallIntegerOf : List ℕ → Cursor → Cursor
+smallIntegerOf m c = let n : Cursor = needOf m 0x02 c in cond (ltb 4 (n .to - n .from)) (faultAt c) n
 
 -- another element is to be read
 unfoldable pub moreAt : Cursor → Bool

@@ -10,7 +10,7 @@ use Rattle.grammar.specs.declared.entries.Item.{Item}
 use Rattle.grammar.specs.declared.entries.Entries.{Entries}
 use Rattle.grammar.specs.declared.entries.EntryKind.{EntryKind}
 use Rattle.grammar.specs.declared.entries.EntryKind.the-variants as of
-use Rattle.grammar.specs.Cursor.{tagAt, needOf, anyOf, noneOf, maybeOf, doneOf, enterOf, leaveOf, valueOf, smallOf, leftAt, repeat}
+use Rattle.grammar.specs.Cursor.{tagAt, needOf, anyOf, noneOf, maybeOf, doneOf, enterOf, leaveOf, valueOf, smallIntegerOf, leftAt, repeat}
 use Rattle.grammar.specs.Parts.{noSpan, foundSpan, wholeSpan, foundOf, anyField, typedField, statusOf, maybeStatus}
 
 abbrev pub noEntry : Entry
@@ -21,7 +21,7 @@ unfoldable pub requestOf : List ℕ → Cursor → Item
 requestOf m c =
     let s : Cursor = needOf m 0x30 c in
     let q : Cursor = needOf m 0x30 (enterOf s) in
-    let n : Cursor = smallOf m (enterOf q) in
+    let n : Cursor = smallIntegerOf m (enterOf q) in
     record {
       cur = leaveOf s (leaveOf q n);
       entry = record { number = valueOf m n; «has_status» = false; status = 0; «cert_hash» = noSpan; «hash_alg» = noSpan; certificate = noSpan; request = wholeSpan c s };
@@ -51,7 +51,7 @@ maybeKeyPair m c = cond (eqb (tagAt m c) 0x30) (keyPair m c) (noneOf c)
 unfoldable pub responseOf : List ℕ → Cursor → Item
 responseOf m c =
     let s : Cursor = needOf m 0x30 c in
-    let n : Cursor = smallOf m (enterOf s) in
+    let n : Cursor = smallIntegerOf m (enterOf s) in
     let i : Status = statusOf m n in
     let k : Cursor = maybeKeyPair m (i .cur) in
     record {
@@ -60,11 +60,11 @@ responseOf m c =
     }
 
 -- CertStatus: OCTET STRING certHash, INTEGER certReqId, optional status info, optional [0] AlgorithmIdentifier hashAlg
-unfoldable pub statusEntry : List ℕ → Cursor → Item
-statusEntry m c =
+unfoldable pub certStatusOf : List ℕ → Cursor → Item
+certStatusOf m c =
     let s : Cursor = needOf m 0x30 c in
     let h : Cursor = needOf m 0x04 (enterOf s) in
-    let n : Cursor = smallOf m h in
+    let n : Cursor = smallIntegerOf m h in
     let i : Status = maybeStatus m n in
     let a : Cursor = typedField m 0xA0 (i .cur) in
     record {
@@ -75,7 +75,7 @@ statusEntry m c =
 unfoldable pub entryOf : List ℕ → EntryKind → Cursor → Item
 entryOf m of.Request c = requestOf m c
 entryOf m of.Response c = responseOf m c
-entryOf m of.Status c = statusEntry m c
+entryOf m of.Status c = certStatusOf m c
 
 -- none yet
 abbrev pub noEntries : Cursor → Entries

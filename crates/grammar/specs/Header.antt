@@ -10,7 +10,7 @@ use Rattle.grammar.specs.declared.pki_header.Names.{Names}
 use Rattle.grammar.specs.declared.pki_header.Options.{Options}
 use Rattle.grammar.specs.declared.pki_header.Ids.{Ids}
 use Rattle.grammar.specs.declared.pki_header.HeaderRead.{HeaderRead}
-use Rattle.grammar.specs.Cursor.{tagAt, faultAt, needOf, doneOf, enterOf, leaveOf, valueOf, smallOf}
+use Rattle.grammar.specs.Cursor.{tagAt, faultAt, needOf, doneOf, enterOf, leaveOf, valueOf, smallIntegerOf}
 use Rattle.grammar.specs.Parts.{foundSpan, wholeSpan, fieldOf, typedField, sequenceField}
 
 -- A GeneralName is one context element 0 to 8; 0, 3, 4, 5 constructed, the rest primitive.
@@ -24,7 +24,7 @@ nameOf m c = let t : ℕ = tagAt m c in cond (nameTag t) (needOf m t c) (faultAt
 -- pvno INTEGER; sender GeneralName; recipient GeneralName
 unfoldable pub namesOf : List ℕ → Cursor → Names
 namesOf m c =
-    let v : Cursor = smallOf m c in
+    let v : Cursor = smallIntegerOf m c in
     let s : Cursor = nameOf m v in
     let r : Cursor = nameOf m s in
     record { cur = r; version = valueOf m v; sender = wholeSpan v s; recipient = wholeSpan s r }
@@ -80,4 +80,4 @@ headerOf m c =
     let n : Names = namesOf m (enterOf s) in
     let o : Options = optionsOf m (n .cur) in
     let i : Ids = idsOf m (o .cur) in
-    record { cur = leaveOf s (doneOf (i .cur)); fields = joined n o i }
+    record { cur = leaveOf s (doneOf (i .cur)); header = joined n o i }

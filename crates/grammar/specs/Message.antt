@@ -31,11 +31,11 @@ messageOf m =
       cur = doneOf (leaveOf s (doneOf x));
       found =
           record {
-            header = wholeSpan c (h .cur);
-            body = wholeSpan (h .cur) (b .cur);
+            «header_span» = wholeSpan c (h .cur);
+            «body_span» = wholeSpan (h .cur) (b .cur);
             protection = outerSpan (b .cur) p;
             «extra_certs» = outerSpan p x;
-            fields = h .fields;
-            contents = b .contents;
+            header = h .header;
+            body = b .body;
           };
     }

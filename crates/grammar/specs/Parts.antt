@@ -11,7 +11,7 @@ use Rattle.grammar.specs.declared.cursor.Cursor.{Cursor}
 use Rattle.grammar.specs.declared.parts.Each.{Each}
 use Rattle.grammar.specs.declared.parts.Each.the-variants.{Text, Certificate, Info}
 use Rattle.grammar.specs.declared.parts.Status.{Status}
-use Rattle.grammar.specs.Cursor.{isOk, tagAt, faultAt, needOf, anyOf, noneOf, restOf, doneOf, enterOf, leaveOf, contentOf, valueOf, smallOf, leftAt, repeat}
+use Rattle.grammar.specs.Cursor.{isOk, tagAt, faultAt, needOf, anyOf, noneOf, restOf, doneOf, enterOf, leaveOf, contentOf, valueOf, smallIntegerOf, leftAt, repeat}
 
 -- ## Spans
 
@@ -111,7 +111,7 @@ failInfoOf m c =
 unfoldable pub statusOf : List ℕ → Cursor → Status
 statusOf m c =
     let s : Cursor = needOf m 0x30 c in
-    let v : Cursor = smallOf m (enterOf s) in
+    let v : Cursor = smallIntegerOf m (enterOf s) in
     record { cur = leaveOf s (doneOf (failInfoOf m (maybeText m v))); given = true; value = valueOf m v }
 
 -- PKIStatusInfo OPTIONAL

@@ -4,7 +4,7 @@ use der::head;
 ghost use mathlib.Core.Path.{_≡_};
 ghost use Prim.Native.Nat.{_+_, _-_, _^_, _<_};
 ghost use lib.ListN.{take, drop};
-ghost use Rattle.grammar.specs.Cursor.{taggedOf, tagAt, faultAt, pastOf, needOf, anyOf, noneOf, maybeOf, restOf, doneOf, enterOf, leaveOf, partOf, contentOf, valueOf, smallOf, moreAt, shiftIn, signed32};
+ghost use Rattle.grammar.specs.Cursor.{taggedOf, tagAt, faultAt, pastOf, needOf, anyOf, noneOf, maybeOf, restOf, doneOf, enterOf, leaveOf, partOf, contentOf, valueOf, smallIntegerOf, moreAt, shiftIn, signed32};
 
 // Where the next element is sought and where its parent ends; what the last one held; and the rule that is broken where the
 // cursor stands, 0 while all is right.
@@ -221,8 +221,8 @@ pub(crate) fn value(m: &[u8], c: Cursor) -> u32
 }
 
 // An INTEGER of at most four content bytes.
-pub(crate) fn small(m: &[u8], c: Cursor) -> Cursor
-    ensures { λ r. ⌜ r ≡ smallOf (now (m .entry)) c ⌝ }
+pub(crate) fn small_integer(m: &[u8], c: Cursor) -> Cursor
+    ensures { λ r. ⌜ r ≡ smallIntegerOf (now (m .entry)) c ⌝ }
 {
     let n = need(m, c, 0x02);
     let len = distance(n.from, n.to);

@@ -9,7 +9,7 @@ use crate::cursor::maybe;
 use crate::cursor::more;
 use crate::cursor::need;
 use crate::cursor::none;
-use crate::cursor::small;
+use crate::cursor::small_integer;
 use crate::cursor::tag_at;
 use crate::cursor::value;
 use crate::parts::any_field;
@@ -22,7 +22,7 @@ use crate::parts::typed_field;
 use crate::parts::whole_span;
 ghost use mathlib.Core.Path.{_≡_};
 ghost use Prim.Native.Nat.{_+_, _^_, _<_};
-ghost use Rattle.grammar.specs.Entries.{noEntry, noEntries, requestOf, choiceOf, keyPair, maybeKeyPair, responseOf, statusEntry, entryOf, next, entriesOf, onlyOf};
+ghost use Rattle.grammar.specs.Entries.{noEntry, noEntries, requestOf, choiceOf, keyPair, maybeKeyPair, responseOf, certStatusOf, entryOf, next, entriesOf, onlyOf};
 
 // What a body's entries are.
 pub enum EntryKind {
@@ -65,7 +65,7 @@ fn request(m: &[u8], c: Cursor) -> Item
 {
     let s = need(m, c, 0x30);
     let q = need(m, enter(s), 0x30);
-    let n = small(m, enter(q));
+    let n = small_integer(m, enter(q));
     let cur = leave(s, leave(q, n));
     let absent = span_from(0, 0);
     let entry = Entry {
@@ -120,7 +120,7 @@ fn response(m: &[u8], c: Cursor) -> Item
     ensures { λ r. ⌜ r ≡ responseOf (now (m .entry)) c ⌝ }
 {
     let s = need(m, c, 0x30);
-    let n = small(m, enter(s));
+    let n = small_integer(m, enter(s));
     let i = status_info(m, n);
     let k = maybe_key_pair(m, i.cur);
     let r = maybe(m, k, 0x04);
@@ -140,11 +140,11 @@ fn response(m: &[u8], c: Cursor) -> Item
 
 // CertStatus.
 fn cert_status(m: &[u8], c: Cursor) -> Item
-    ensures { λ r. ⌜ r ≡ statusEntry (now (m .entry)) c ⌝ }
+    ensures { λ r. ⌜ r ≡ certStatusOf (now (m .entry)) c ⌝ }
 {
     let s = need(m, c, 0x30);
     let h = need(m, enter(s), 0x04);
-    let n = small(m, h);
+    let n = small_integer(m, h);
     let i = maybe_status(m, n);
     let a = typed_field(m, i.cur, 0xA0);
     let cur = leave(s, done(a));

@@ -61,12 +61,12 @@ pub struct Body {
 
 // PKIMessage: four whole elements, and what the first two say.
 pub struct Message {
-    pub header: Span,
-    pub body: Span,
+    pub header_span: Span,
+    pub body_span: Span,
     pub protection: Span,
     pub extra_certs: Span,
-    pub fields: Header,
-    pub contents: Body,
+    pub header: Header,
+    pub body: Body,
 }
 
 // The bytes from `start` on, `len` of them; none where the message has not so many.

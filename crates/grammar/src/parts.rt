@@ -13,7 +13,7 @@ use crate::cursor::more;
 use crate::cursor::need;
 use crate::cursor::none;
 use crate::cursor::rest;
-use crate::cursor::small;
+use crate::cursor::small_integer;
 use crate::cursor::tag_at;
 use crate::cursor::value;
 ghost use mathlib.Core.Path.{_≡_};
@@ -249,7 +249,7 @@ pub(crate) fn status_info(m: &[u8], c: Cursor) -> Status
     ensures { λ r. ⌜ r ≡ statusOf (now (m .entry)) c ⌝ }
 {
     let s = need(m, c, 0x30);
-    let v = small(m, enter(s));
+    let v = small_integer(m, enter(s));
     let t = maybe_text(m, v);
     let f = fail_info(m, t);
     let cur = leave(s, done(f));

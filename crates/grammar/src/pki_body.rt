@@ -39,7 +39,7 @@ pub struct Contents {
 
 pub struct BodyRead {
     pub cur: Cursor,
-    pub contents: Body,
+    pub body: Body,
 }
 
 fn from_entries(cur: Cursor, ca_pubs: Span, e: Entries) -> Contents
@@ -238,11 +238,11 @@ pub(crate) fn read_body(m: &[u8], c: Cursor) -> BodyRead
     let cur = leave(b, done(i.cur));
     let ca_pubs = i.ca_pubs;
     let entry = i.entry;
-    let contents = Body {
+    let body = Body {
         kind,
         entries: i.entries,
         ca_pubs,
         entry,
     };
-    BodyRead { cur, contents }
+    BodyRead { cur, body }
 }

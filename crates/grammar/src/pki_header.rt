@@ -7,7 +7,7 @@ use crate::cursor::enter;
 use crate::cursor::fault_at;
 use crate::cursor::leave;
 use crate::cursor::need;
-use crate::cursor::small;
+use crate::cursor::small_integer;
 use crate::cursor::tag_at;
 use crate::cursor::value;
 use crate::parts::Each;
@@ -48,7 +48,7 @@ pub struct Ids {
 
 pub struct HeaderRead {
     pub cur: Cursor,
-    pub fields: Header,
+    pub header: Header,
 }
 
 fn name_tag(t: u8) -> bool
@@ -96,7 +96,7 @@ fn name(m: &[u8], c: Cursor) -> Cursor
 fn read_names(m: &[u8], c: Cursor) -> Names
     ensures { λ r. ⌜ r ≡ namesOf (now (m .entry)) c ⌝ }
 {
-    let v = small(m, c);
+    let v = small_integer(m, c);
     let s = name(m, v);
     let r = name(m, s);
     Names {
@@ -149,8 +149,8 @@ pub(crate) fn read_header(m: &[u8], c: Cursor) -> HeaderRead
     let o = read_options(m, n.cur);
     let i = read_ids(m, o.cur);
     let cur = leave(s, done(i.cur));
-    let fields = join(n, o, i);
-    HeaderRead { cur, fields }
+    let header = join(n, o, i);
+    HeaderRead { cur, header }
 }
 
 fn join(n: Names, o: Options, i: Ids) -> Header

@@ -45,15 +45,15 @@ pub fn read_message(m: &[u8]) -> MessageRead
     let p = field(m, b.cur, 0xA0, 0x03);
     let x = sequence_field(m, p, 0xA1, Each::Certificate);
     let cur = done(leave(s, done(x)));
-    let fields = h.fields;
-    let contents = b.contents;
+    let header = h.header;
+    let body = b.body;
     let found = Message {
-        header: whole_span(c, h.cur),
-        body: whole_span(h.cur, b.cur),
+        header_span: whole_span(c, h.cur),
+        body_span: whole_span(h.cur, b.cur),
         protection: outer_span(b.cur, p),
         extra_certs: outer_span(p, x),
-        fields,
-        contents,
+        header,
+        body,
     };
     MessageRead { cur, found }
 }

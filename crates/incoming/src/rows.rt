@@ -3,7 +3,7 @@ use grammar::Entry;
 use grammar::Header;
 use grammar::Message;
 use grammar::Offset;
-use message::Fault;
+use message::ReadFault;
 use message::Reading;
 use parts::is_present;
 use parts::not_sixteen;
@@ -12,16 +12,16 @@ ghost use mathlib.Core.Path.{_≡_};
 ghost use mathlib.Core.Bool.{not, cond, _&&_, _||_};
 ghost use lib.Dec.{eqb};
 ghost use Rattle.protocol.specs.Message.{isPresent, fieldsOf, optionalStatus, statusOr0};
-ghost use Rattle.protocol.specs.Refusals.{bitOf, readRefusal, check, headRows};
+ghost use Rattle.protocol.specs.Refusals.{bitOf, readRefusal, lowestRow, headRows};
 ghost use Rattle.incoming.specs.Incoming.{numberOf, faultOf};
 
 // The reader's fault; zeros where there is none.
-pub fn fault_of(reading: Reading) -> Fault
+pub fn fault_of(reading: Reading) -> ReadFault
     ensures { λ r. ⌜ r ≡ faultOf reading ⌝ }
 {
     match reading {
         Reading::Refused(fault) => fault,
-        Reading::Clean(_) => Fault {
+        Reading::Clean(_) => ReadFault {
             number: 0,
             at: Offset(0),
             rule: 0,
@@ -30,7 +30,7 @@ pub fn fault_of(reading: Reading) -> Fault
 }
 
 // 1 or 2.
-pub fn read_refusal(fault: Fault) -> u8
+pub fn read_refusal(fault: ReadFault) -> u8
     ensures { λ r. ⌜ r ≡ readRefusal fault ⌝ }
 {
     if fault.number == 1 { 1 } else { 2 }
@@ -50,11 +50,11 @@ fn other_version(version: u32) -> bool
 }
 
 // 6
-fn unprotected(m: Message, fields: Header) -> bool
-    ensures { λ r. ⌜ r ≡ not (isPresent (m .protection) && isPresent (fields .«protection_alg»)) ⌝ }
+fn unprotected(m: Message, header: Header) -> bool
+    ensures { λ r. ⌜ r ≡ not (isPresent (m .protection) && isPresent (header .«protection_alg»)) ⌝ }
 {
     if is_present(m.protection) {
-        if is_present(fields.protection_alg) {
+        if is_present(header.protection_alg) {
             return false;
         }
     }
@@ -63,19 +63,19 @@ fn unprotected(m: Message, fields: Header) -> bool
 
 // The lowest of the rows 3 to 7 that applies; 0 where none does.
 pub fn head_refusal(message: &[u8], m: Message, good: bool) -> u8
-    ensures { λ r. ⌜ r ≡ numberOf (check (headRows good (fieldsOf (now (message .entry)) m))) ⌝ }
+    ensures { λ r. ⌜ r ≡ numberOf (lowestRow (headRows good (fieldsOf (now (message .entry)) m))) ⌝ }
 {
-    let fields = m.fields;
-    if other_version(fields.version) {
+    let header = m.header;
+    if other_version(header.version) {
         return 3;
     }
-    if not_sixteen(message, fields.transaction_id) {
+    if not_sixteen(message, header.transaction_id) {
         return 4;
     }
-    if not_sixteen(message, fields.sender_nonce) {
+    if not_sixteen(message, header.sender_nonce) {
         return 5;
     }
-    if unprotected(m, fields) {
+    if unprotected(m, header) {
         return 6;
     }
     if good {

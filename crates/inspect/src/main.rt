@@ -28,17 +28,17 @@ fn put_span(word: &[u8], span: Span) {
 }
 
 fn put_message(m: Message) {
-    let contents = m.contents;
-    let kind = contents.kind;
-    let entry = contents.entry;
+    let body = m.body;
+    let kind = body.kind;
+    let entry = body.entry;
     io::write_all(STDOUT_FILENO, b"kind");
     put_small(kind);
     end_line();
-    put_span(b"header", m.header);
-    put_span(b"body", m.body);
+    put_span(b"header", m.header_span);
+    put_span(b"body", m.body_span);
     put_span(b"protection", m.protection);
     if kind == 24 {
-        if contents.entries == 1 {
+        if body.entries == 1 {
             put_span(b"hash", entry.cert_hash);
         }
     }

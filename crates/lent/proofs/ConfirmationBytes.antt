@@ -24,7 +24,7 @@ use Rattle.duskstall.specs.Calls.{registrarInput}
 use Rattle.lent.specs.Calls.{RegistrarCall, RegistrarMessage}
 use Rattle.lent.specs.Lent.{LentCall, AtRegistrar, LentWorld, crossing, lentAfter, lentBeginning}
 use Rattle.lent.specs.Kept.{LentPromise}
-use Rattle.lent.specs.Reads.{registrarRead, tableIn}
+use Rattle.lent.specs.Reads.{registrarReadBack, tableIn}
 use Rattle.lent.specs.ConfirmationBytes.{BytesConfirmed, ConfirmsBytes, LentConfirmation, LentConfirmationAfter}
 use Rattle.lent.proofs.Kept.{lent-demand1}
 use Rattle.lent.proofs.ReadBack.{lent-reads, lent-sound}
@@ -42,20 +42,20 @@ is-again outcome.Again e = refl
 is-again (outcome.Refused n f) e = absurd (omega arith)
 
 -- a confirmation that matches leads to a state
-status-leads : (m : Message) → (m .contents .entry .status ≡ 0) ⊎ (m .contents .entry .status ≡ 2) → m .contents .entry .«has_status» ≡ true
+status-leads : (m : Message) → (m .body .entry .status ≡ 0) ⊎ (m .body .entry .status ≡ 2) → m .body .entry .«has_status» ≡ true
     → (v : TransactionState) × LeadsTo m v
 status-leads m (inl e) h = (Confirmed, inl (refl, inr e))
 status-leads m (inr e) h = (Declined, inr (refl, h, e))
 
-leads : (m : Message) (b : Bool) → m .contents .entry .«has_status» ≡ b
-    → (b ≡ true → (m .contents .entry .status ≡ 0) ⊎ (m .contents .entry .status ≡ 2)) → (v : TransactionState) × LeadsTo m v
+leads : (m : Message) (b : Bool) → m .body .entry .«has_status» ≡ b
+    → (b ≡ true → (m .body .entry .status ≡ 0) ⊎ (m .body .entry .status ≡ 2)) → (v : TransactionState) × LeadsTo m v
 leads m true h s = status-leads m (s refl) h
 leads m false h s = (Confirmed, inl (refl, inl h))
 
 -- ## The rule
 
-module _ (t : TransactionTable) (d : RegistrarInput) (bytes : List ℕ) (m : Message) (reads : readingOf bytes ≡ read.Clean m) (kind : m .contents .kind ≡ 24) where
-  module _ (s : List ℕ) (x : Crossing) (back : registrarRead x ≡ registrarMessage t d bytes) (code : x .code ≡ outcomeNumber (registrarMessage t d bytes .outcome)) (stays : (x .code ≡ 0 → ⊥) → x .state ≡ s) where
+module _ (t : TransactionTable) (d : RegistrarInput) (bytes : List ℕ) (m : Message) (reads : readingOf bytes ≡ read.Clean m) (kind : m .body .kind ≡ 24) where
+  module _ (s : List ℕ) (x : Crossing) (back : registrarReadBack x ≡ registrarMessage t d bytes) (code : x .code ≡ outcomeNumber (registrarMessage t d bytes .outcome)) (stays : (x .code ≡ 0 → ⊥) → x .state ≡ s) where
     abbrev rule : ConfirmationRule t d bytes m
     rule = confirmation-rule t d bytes m
 
@@ -64,7 +64,7 @@ module _ (t : TransactionTable) (d : RegistrarInput) (bytes : List ℕ) (m : Mes
         record {
           moves = λ e. rule .moves (record { reads = reads; kind = kind; ends = is-done _ (sym code ∙ e) });
           done = λ r c.
-              let v : (v : TransactionState) × LeadsTo m v = leads m (m .contents .entry .«has_status») refl (c .match .status) in
+              let v : (v : TransactionState) × LeadsTo m v = leads m (m .body .entry .«has_status») refl (c .match .status) in
               code ∙ ap (λ (a : RegistrarAnswer). outcomeNumber (a .outcome)) (rule .moved r c (v .0) (v .1));
           moved = λ r c v l. back ∙ rule .moved r c v l;
           repeats = λ e. rule .repeats (record { reads = reads; kind = kind; ends = is-again _ (sym code ∙ e) });

@@ -16,18 +16,18 @@ use Rattle.protocol.specs.declared.Enrolment.{Enrolment}
 use Rattle.protocol.specs.declared.EndEntityAnswer.{EndEntityAnswer}
 use Rattle.protocol.specs.Bytes.{asNonce}
 use Rattle.protocol.specs.Message.{Fields, fieldsOf, isEnrolmentKind, pkiConf, errorKind, statusOr0}
-use Rattle.protocol.specs.Refusals.{Check, pass, stop, check}
+use Rattle.protocol.specs.Refusals.{LowestRow, pass, stop, lowestRow}
 use Rattle.protocol.specs.EndEntityRows.{endEntityRows}
 use Rattle.protocol.specs.States.{isWaiting, isConfirming}
 use Rattle.protocol.specs.EndEntity.{inState, enrolmentMoved, endEntityStart, afterRefusal, endEntityChecked, endEntityRead, endEntityMessage, endEntityTimeOut}
 use Rattle.protocol.proofs.Tests.{cases}
-use Rattle.packed.specs.Enrolment.{Sized}
+use Rattle.packed.specs.Enrolment.{EnrolmentSized}
 use Rattle.packed.specs.Outgoing.{OutgoingSized}
 use Rattle.packed.specs.Answer.{OutcomeBack}
 use Rattle.lent.proofs.Sizes.{bit-back, silent-sized, Late, late, sixteen}
 
 pub record EndEntitySized (a : EndEntityAnswer) : Type 0 where
-  pub enrolment : Sized (a .enrolment)
+  pub enrolment : EnrolmentSized (a .enrolment)
   pub outgoing : OutgoingSized (a .outgoing)
   pub outcome : OutcomeBack (a .outcome)
 
@@ -43,7 +43,7 @@ start-sized k i n p q =
     })
     (λ _. record { enrolment = record { id = refl; last = refl; taken = refl; hash = refl }; outgoing = silent-sized; outcome = bit-back 32 false })
 
-module _ (x : Enrolment) (z : Sized x) where
+module _ (x : Enrolment) (z : EnrolmentSized x) where
   moved-sized : (s : EnrolmentState) → EndEntitySized (enrolmentMoved (inState x s))
   moved-sized s = record { enrolment = record { id = z .id; last = z .last; taken = z .taken; hash = z .hash }; outgoing = silent-sized; outcome = tt }
 
@@ -53,11 +53,11 @@ module _ (x : Enrolment) (z : Sized x) where
       cases EndEntitySized (isWaiting (x .state) || isConfirming (x .state)) _ _ (λ _. moved-sized _) (λ _. record { enrolment = z; outgoing = silent-sized; outcome = bit-back 31 false })
 
   module _ (d : EndEntityInput) (h : length (d .hash .bytes) ≡ 32) (n : length (d .nonce .bytes) ≡ 16) where
-    sender : (m : Fields) → check (endEntityRows x (d .good) m) ≡ pass → length (asNonce (m .senderNonce) .bytes) ≡ 16
+    sender : (m : Fields) → lowestRow (endEntityRows x (d .good) m) ≡ pass → length (asNonce (m .senderNonce) .bytes) ≡ 16
     unfolding endEntityRows
     sender m e = sixteen (m .senderNonce) ((late _ _ _ _ (subst Late (sym e) tt)) .1)
 
-    checked-sized : (m : Fields) (c : Check) → check (endEntityRows x (d .good) m) ≡ c → EndEntitySized (endEntityChecked c x d m)
+    checked-sized : (m : Fields) (c : LowestRow) → lowestRow (endEntityRows x (d .good) m) ≡ c → EndEntitySized (endEntityChecked c x d m)
     unfolding endEntityChecked afterRefusal
     checked-sized m (stop k) e = record { enrolment = z; outgoing = silent-sized; outcome = bit-back k false }
     checked-sized m pass e =

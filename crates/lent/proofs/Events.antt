@@ -15,7 +15,7 @@ use Rattle.protocol.specs.EndEntity.{endEntityStart}
 use Rattle.packed.specs.Arrays.{unpack16}
 use Rattle.packed.specs.Answer.{registrarAnswerBytes, endEntityAnswerBytes}
 use Rattle.packed.specs.Table.{unpackTable, TableSized}
-use Rattle.packed.specs.Enrolment.{enrolmentBytes, unpackEnrolment, Sized}
+use Rattle.packed.specs.Enrolment.{enrolmentBytes, unpackEnrolment, EnrolmentSized}
 use Rattle.packed.proofs.AnswerInverse.{registrar-code-at, end-entity-code-at}
 use Rattle.packed.proofs.TableInverse.{table-sized}
 use Rattle.packed.proofs.EnrolmentInverse.{enrolment-sized}
@@ -42,7 +42,7 @@ registrar-plain p f s b sized =
     let a : RegistrarAnswer = f (unpackTable s .table) in
     made-of (Plain p) (unpackTable s .ok) p (leb registrarAnswerBytes (length b)) s b (registrarWritten a s b) (λ o q r. record { code = registrar-code-at a b (sized (unpackTable s .table) (table-sized s o) .outgoing) r; args = q })
 
-board-plain : (p : Bool) (f : Enrolment → EndEntityAnswer) (s b : List ℕ) → ((x : Enrolment) → Sized x → EndEntitySized (f x))
+board-plain : (p : Bool) (f : Enrolment → EndEntityAnswer) (s b : List ℕ) → ((x : Enrolment) → EnrolmentSized x → EndEntitySized (f x))
     → isMade (endEntityCrossing p f s b .code) ≡ true → Plain p (endEntityCrossing p f s b)
 unfolding endEntityAnswered
 board-plain p f s b sized =

@@ -27,7 +27,7 @@ use Rattle.lent.specs.Lent.{LentCall, LentWorld, registrarLent, lentStep
 use Rattle.lent.specs.Places.{transactionState, outgoingRecipNonce}
 use Rattle.lent.specs.Header.{ClosedBytes, FairBytes, InSlot, HeaderAgreement}
 use Rattle.lent.specs.Witness.{lentEnrols, LentEnds}
-use Rattle.lent.specs.OtherBytes.{HostCall, lentBy, hostStep, hostAfter, asLeft}
+use Rattle.lent.specs.OtherBytes.{HostCall, lentBy, hostCalls, hostAfter, asLeft}
 use Rattle.lent.specs.ForgottenTable.{forgetful, NoneCloses, ForgottenTable, PremiseNeeded}
 use Rattle.protocol.specs.Witness.{acceptBytes}
 use Rattle.lent.proofs.Stand.{table-in}
@@ -97,7 +97,7 @@ not-in-slot s n h = none-confirmed (h .0) (h .1) (h .4)
 host-append : (w : LentWorld) (hs gs : List HostCall) → hostAfter w (hs ++ gs) ≡ hostAfter (hostAfter w hs) gs
 unfolding hostAfter
 host-append w [] gs = refl
-host-append w (h ∷ hs) gs = host-append (hostStep w h) hs gs
+host-append w (h ∷ hs) gs = host-append (hostCalls w h) hs gs
 
 module _ (w : LentWorld) where
   -- as the call leaves it

@@ -21,7 +21,7 @@ use Rattle.protocol.proofs.EndEntityPromises as at-board
 use Rattle.packed.specs.declared.arrays.Unpacked16.{Unpacked16}
 use Rattle.packed.specs.Arrays.{unpack16, unpack32}
 use Rattle.packed.specs.Table.{TableSized}
-use Rattle.packed.specs.Enrolment.{Sized}
+use Rattle.packed.specs.Enrolment.{EnrolmentSized}
 use Rattle.duskstall.specs.Boundary.{registrarCrossing, endEntityCrossing, yes, verdictOf}
 use Rattle.duskstall.specs.Calls.{idOf, nonceOf, hashOf, registrarInput, endEntityInput}
 use Rattle.lent.specs.Calls.{RegistrarCall, RegistrarMessage, RegistrarIssue, RegistrarRefuse, RegistrarLapse, RegistrarClose, registrarCrosses, registrarStep, registrarAnswers, registrarRefusals, closing}
@@ -146,7 +146,7 @@ pub record EndEntityForm (c : EndEntityCall) : Type 0 where
   pub crosses : (s b : List ℕ) → endEntityCrosses c s b ≡ endEntityCrossing args (endEntityAnswers c) s b
   pub steps : (w : World) (k : ℕ) → step w (endEntityStep k c) ≡ enrolmentDid w (endEntityStep k c) k (getElem? (w .enrolments) k) (endEntityAnswers c)
   pub promise : (x : Enrolment) → EndEntityPromise (endEntityRefusals c) x (endEntityAnswers c x)
-  pub sized : (x : Enrolment) → Sized x → EndEntitySized (endEntityAnswers c x)
+  pub sized : (x : Enrolment) → EnrolmentSized x → EndEntitySized (endEntityAnswers c x)
   pub fits : EndEntityFits c → args ≡ true
   pub good : (k : ℕ) (es : List LentEvent) → GoodAtEndEntity c es ↔ SenderIssued (endEntityStep k c) (eventsOf es)
 

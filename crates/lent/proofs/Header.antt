@@ -50,18 +50,18 @@ closed-back i n (e ∷ es) a h =
     split m f (inr x) = inr (f x)
 
 pub confirmed-free : at-registrar.Confirmed ≡ at-registrar.Free → ⊥
-confirmed-free e = let z : _≡_ {A = ℕ} 3 0 = ap table.stateNumber e in omega arith
+confirmed-free e = let z : _≡_ {A = ℕ} 3 0 = ap table.transactionStateNumber e in omega arith
 
 declined-free : at-registrar.Declined ≡ at-registrar.Free → ⊥
-declined-free e = let z : _≡_ {A = ℕ} 4 0 = ap table.stateNumber e in omega arith
+declined-free e = let z : _≡_ {A = ℕ} 4 0 = ap table.transactionStateNumber e in omega arith
 
 pub is-confirmed : (s : List ℕ) (p : ℕ) → transactionState p s ≡ 3 → row s p .state ≡ at-registrar.Confirmed
-unfolding table.stateOf
-is-confirmed s p e = state-at s p ∙ ap table.stateOf e
+unfolding table.transactionStateOf
+is-confirmed s p e = state-at s p ∙ ap table.transactionStateOf e
 
 is-declined : (s : List ℕ) (p : ℕ) → transactionState p s ≡ 4 → row s p .state ≡ at-registrar.Declined
-unfolding table.stateOf
-is-declined s p e = state-at s p ∙ ap table.stateOf e
+unfolding table.transactionStateOf
+is-declined s p e = state-at s p ∙ ap table.transactionStateOf e
 
 may-be : (s : List ℕ) → unpackEnrolment s .ok ≡ true → MayBeSure (unpackEnrolment s .enrolment .state)
     → (enrolmentState s ≡ 3) ⊎ (enrolmentState s ≡ 1) ⊎ (enrolmentState s ≡ 6)
@@ -109,7 +109,7 @@ module _ (w : LentWorld) (ok : unpackTable (w .table) .ok ≡ true) (all : Enrol
         }
 
     -- the transaction of an enrolment, found or closed
-    found : (s : TransactionState) → s ≢ at-registrar.Lapsed → FoundUntilClosed (worldOf w) x s → FoundBytes w e (table.stateNumber s)
+    found : (s : TransactionState) → s ≢ at-registrar.Lapsed → FoundUntilClosed (worldOf w) x s → FoundBytes w e (table.transactionStateNumber s)
     unfolding outgoingOf
     found s d f =
         let q : (v : List ℕ) × (outgoingOf v ≡ f .0) × SentCertConf w e v = confirmation-bytes (f .0) (f .1) in
@@ -117,11 +117,11 @@ module _ (w : LentWorld) (ok : unpackTable (w .table) .ok ≡ true) (all : Enrol
           q .0,
           q .2,
           (λ u c. same-outgoing u (q .0) (f .2 (outgoingOf u) (bytes-confirmation u c) ∙ sym (q .1))),
-          subst (λ (n : List ℕ). ClosedBytes (enrolmentId (e .bytes)) n (w .past) ⊎ InSlot (w .table) (e .bytes) n (table.stateNumber s)) nonce (go (f .3)),
+          subst (λ (n : List ℕ). ClosedBytes (enrolmentId (e .bytes)) n (w .past) ⊎ InSlot (w .table) (e .bytes) n (table.transactionStateNumber s)) nonce (go (f .3)),
         )
       where
         slot : (r : Transaction) → RegistrarHolds (worldOf w .table) (x .enrolment .id) r → r .sent ≡ f .0 .«recip_nonce» → r .state ≡ s
-            → r .hash ≡ x .enrolment .hash → InSlot (w .table) (e .bytes) (f .0 .«recip_nonce» .bytes) (table.stateNumber s)
+            → r .hash ≡ x .enrolment .hash → InSlot (w .table) (e .bytes) (f .0 .«recip_nonce» .bytes) (table.transactionStateNumber s)
         slot r h n y z =
             let p : ℕ = h .0 in
             let q : (p < capacity) × (r ≡ row (w .table) p) = held-row (w .table) ok p r (h .1) in (
@@ -136,7 +136,7 @@ module _ (w : LentWorld) (ok : unpackTable (w .table) .ok ≡ true) (all : Enrol
         go :
             ClosedSince (x .enrolment .id) (f .0 .«recip_nonce») (worldOf w .past)
             ⊎ ((r : Transaction) × RegistrarHolds (worldOf w .table) (x .enrolment .id) r × (r .sent ≡ f .0 .«recip_nonce») × (r .state ≡ s) × (r .hash ≡ x .enrolment .hash))
-            → ClosedBytes (enrolmentId (e .bytes)) (f .0 .«recip_nonce» .bytes) (w .past) ⊎ InSlot (w .table) (e .bytes) (f .0 .«recip_nonce» .bytes) (table.stateNumber s)
+            → ClosedBytes (enrolmentId (e .bytes)) (f .0 .«recip_nonce» .bytes) (w .past) ⊎ InSlot (w .table) (e .bytes) (f .0 .«recip_nonce» .bytes) (table.transactionStateNumber s)
         go (inl c) = inl (subst (λ (i : List ℕ). ClosedBytes i (f .0 .«recip_nonce» .bytes) (w .past)) (board-id (e .bytes) o) (closed-back (x .enrolment .id) (f .0 .«recip_nonce») (w .past) plain c))
         go (inr h) = inr (slot (h .0) (h .1) (h .2) (h .3) (h .4))
 
@@ -150,7 +150,7 @@ module _ (w : LentWorld) (ok : unpackTable (w .table) .ok ≡ true) (all : Enrol
         )
 
     agrees-neither : AgreesOrBetween (worldOf w) x (x .enrolment .state) → (enrolmentState (e .bytes) ≡ 0) ⊎ (enrolmentState (e .bytes) ≡ 5) → Neither (worldOf w) x
-    unfolding enrolment.stateOf
+    unfolding enrolment.enrolmentStateOf
     agrees-neither g (inl n) = subst (AgreesOrBetween (worldOf w) x) (says (e .bytes) o 0 n) g
     agrees-neither g (inr n) = subst (AgreesOrBetween (worldOf w) x) (says (e .bytes) o 5 n) g
 
@@ -178,7 +178,7 @@ module _ (w : LentWorld) (ok : unpackTable (w .table) .ok ≡ true) (all : Enrol
       of-board p (a .confirmed (row (w .table) p .id) (row (w .table) p) (in-use (w .table) ok p h (row (w .table) p .id) (sym (id-at (w .table) p)) at-registrar.Confirmed confirmed-free c) c)
 
   header : HeaderAgreement w
-  unfolding enrolment.stateOf
+  unfolding enrolment.enrolmentStateOf
   header =
       record {
         states = λ k e h. state-below (e .bytes) (held-bytes (w .enrolments) all k e h .1);

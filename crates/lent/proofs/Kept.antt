@@ -21,7 +21,7 @@ use Rattle.protocol.proofs.Tests.{true-false}
 use Rattle.protocol.proofs.EndEntityPromises.{start-promise, start-never}
 use Rattle.packed.specs.Answer.{outcomeNumber, registrarAnswerBytes, endEntityAnswerBytes}
 use Rattle.packed.specs.Table.{packTable, unpackTable, packTableIn, TableSized}
-use Rattle.packed.specs.Enrolment.{enrolmentBytes, unpackEnrolment, packEnrolmentIn, Sized}
+use Rattle.packed.specs.Enrolment.{enrolmentBytes, unpackEnrolment, packEnrolmentIn, EnrolmentSized}
 use Rattle.packed.proofs.TableInverse as table-inverse
 use Rattle.packed.proofs.EnrolmentInverse as enrolment-inverse
 use Rattle.packed.proofs.AnswerInverse.{registrar-refusal-at, end-entity-refusal-at}
@@ -91,7 +91,7 @@ module _ (ns : List ℕ) (f : TransactionTable → RegistrarAnswer) (promise : (
 
 -- ## An end entity
 
-module _ (ns : List ℕ) (f : Enrolment → EndEntityAnswer) (promise : (x : Enrolment) → EndEntityPromise ns x (f x)) (sized : (x : Enrolment) → Sized x → EndEntitySized (f x)) (s b : List ℕ) where
+module _ (ns : List ℕ) (f : Enrolment → EndEntityAnswer) (promise : (x : Enrolment) → EndEntityPromise ns x (f x)) (sized : (x : Enrolment) → EnrolmentSized x → EndEntitySized (f x)) (s b : List ℕ) where
   abbrev x : Enrolment
   x = unpackEnrolment s .enrolment
 

@@ -16,7 +16,7 @@ use Rattle.lent.specs.Lent.{LentCall, AtRegistrar, AtEndEntity, EndEntit
 use Rattle.lent.specs.Lent.{enrolmentLent, lentStep, lentAfter, lentBeginning}
 use Rattle.lent.specs.Kept.{LentPromise, stateLent}
 use Rattle.lent.specs.Header.{FairBytes, HeaderAgreement}
-use Rattle.lent.specs.OtherBytes.{InEnrolment, statePlace, withBytes, lendAt, lending, lentBy, hostStep, hostAfter, callsOf, AllAsLeft, HostRuns, HostDemand3, asLeft, EveryListAsLeft, Lends, rewritten, OnlyThere, HostOnAnyBytes}
+use Rattle.lent.specs.OtherBytes.{InEnrolment, statePlace, withBytes, lendAt, lending, lentBy, hostCalls, hostAfter, callsOf, AllAsLeft, HostRuns, HostDemand3, asLeft, EveryListAsLeft, Lends, rewritten, OnlyThere, HostOnAnyBytes}
 use Rattle.lent.proofs.Stand.{set-same}
 use Rattle.lent.proofs.Kept.{board-promised, start-promised, promised}
 use Rattle.lent.proofs.ReadBack.{lent-reads}
@@ -56,7 +56,7 @@ unfolding hostAfter callsOf lentAfter
 host-runs w [] a = refl
 host-runs w (h ∷ hs) a =
     let e : lentBy w h ≡ w = ap (λ (s : List ℕ). lending w (h .call) s) (a .0) ∙ lent-same w (h .call) in
-    host-runs (hostStep w h) hs (a .1) ∙ ap (λ (v : LentWorld). lentAfter (lentStep v (h .call)) (callsOf hs)) e
+    host-runs (hostCalls w h) hs (a .1) ∙ ap (λ (v : LentWorld). lentAfter (lentStep v (h .call)) (callsOf hs)) e
 
 pub host-demand3 : HostDemand3
 host-demand3 s e hs a fair =

@@ -18,7 +18,7 @@ use Rattle.packed.specs.declared.enrolment.UnpackedEnrolment.{UnpackedEnrolment
 use Rattle.packed.specs.Arrays.{unpack16}
 use Rattle.packed.specs.Answer.{outcomeNumber, registrarAnswerBytes, endEntityAnswerBytes}
 use Rattle.packed.specs.Table.{packTable, unpackTable, TableSized}
-use Rattle.packed.specs.Enrolment.{enrolmentBytes, packEnrolment, packEnrolmentIn, unpackEnrolment, Sized}
+use Rattle.packed.specs.Enrolment.{enrolmentBytes, packEnrolment, packEnrolmentIn, unpackEnrolment, EnrolmentSized}
 use Rattle.packed.proofs.AnswerInverse.{registrar-back, end-entity-back, end-entity-outcome-back, end-entity-fault-back, end-entity-sends-back, end-entity-outgoing-back}
 use Rattle.duskstall.specs.Boundary.{Crossing, registrarWritten, registrarAnswered, registrarCrossing, endEntityWritten, endEntityAnswered, endEntityCrossing, startWritten, startCrossing}
 use Rattle.duskstall.specs.Calls.{idOf, nonceOf}
@@ -46,7 +46,7 @@ registrar-reads p f s b sized m =
     record { code = refl; answer = registrar-back a b (z .outgoing) r (z .outcome) (z .slot) _ (ap (λ (u : UnpackedTable). u .table) (table-read (a .table) (z .table) (table-in s (a .table) o))) })
     m
 
-board-reads : (p : Bool) (f : Enrolment → EndEntityAnswer) (s b : List ℕ) → ((x : Enrolment) → Sized x → EndEntitySized (f x))
+board-reads : (p : Bool) (f : Enrolment → EndEntityAnswer) (s b : List ℕ) → ((x : Enrolment) → EnrolmentSized x → EndEntitySized (f x))
     → isMade (endEntityCrossing p f s b .code) ≡ true → EndEntityReads (endEntityCrossing p f s b) (f (unpackEnrolment s .enrolment))
 unfolding endEntityAnswered
 board-reads p f s b sized m =

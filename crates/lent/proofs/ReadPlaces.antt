@@ -69,32 +69,32 @@ number a n ps = record { at = a; number = n } ∷ ps
 
 abbrev puts : Message → List Put
 puts x =
-    span 3 (x .header) (
-    span 5 (x .body) (
+    span 3 (x .«header_span») (
+    span 5 (x .«body_span») (
     span 7 (x .protection) (
     span 9 (x .«extra_certs») (
-    number 1 (x .fields .version) (
-    span 11 (x .fields .sender) (
-    span 13 (x .fields .recipient) (
-    span 15 (x .fields .«message_time») (
-    span 17 (x .fields .«protection_alg») (
-    span 19 (x .fields .«sender_kid») (
-    span 21 (x .fields .«recip_kid») (
-    span 23 (x .fields .«transaction_id») (
-    span 25 (x .fields .«sender_nonce») (
-    span 27 (x .fields .«recip_nonce») (
-    span 29 (x .fields .«free_text») (
-    span 31 (x .fields .«general_info») (
-    number 0 (x .contents .kind) (
-    number 2 (x .contents .entries) (
-    span 33 (x .contents .«ca_pubs») (
-    number 35 (x .contents .entry .number) (
-    number 36 (cond (x .contents .entry .«has_status») 1 0) (
-    number 37 (x .contents .entry .status) (
-    span 38 (x .contents .entry .«cert_hash») (
-    span 40 (x .contents .entry .«hash_alg») (
-    span 42 (x .contents .entry .certificate) (
-    span 44 (x .contents .entry .request) (
+    number 1 (x .header .version) (
+    span 11 (x .header .sender) (
+    span 13 (x .header .recipient) (
+    span 15 (x .header .«message_time») (
+    span 17 (x .header .«protection_alg») (
+    span 19 (x .header .«sender_kid») (
+    span 21 (x .header .«recip_kid») (
+    span 23 (x .header .«transaction_id») (
+    span 25 (x .header .«sender_nonce») (
+    span 27 (x .header .«recip_nonce») (
+    span 29 (x .header .«free_text») (
+    span 31 (x .header .«general_info») (
+    number 0 (x .body .kind) (
+    number 2 (x .body .entries) (
+    span 33 (x .body .«ca_pubs») (
+    number 35 (x .body .entry .number) (
+    number 36 (cond (x .body .entry .«has_status») 1 0) (
+    number 37 (x .body .entry .status) (
+    span 38 (x .body .entry .«cert_hash») (
+    span 40 (x .body .entry .«hash_alg») (
+    span 42 (x .body .entry .certificate) (
+    span 44 (x .body .entry .request) (
     number 46 (protectedLength x) []))))))))))))))))))))))))))
 
 message-puts : (x : Message) (l : List ℕ) → putMessage x l ≡ putAll (puts x) l
@@ -157,15 +157,15 @@ module _ (x : Message) (l : List ℕ) (room : fieldCount ≤ length l) where
   numbers Number.CertReqId = at 35 (omega arith)
   numbers Number.Status = at 37 (omega arith)
 
-  kind : getD (putMessage x l) 0 0 ≡ x .contents .kind
+  kind : getD (putMessage x l) 0 0 ≡ x .body .kind
   unfolding stands
   kind = at 0 (omega arith)
 
-  entries : getD (putMessage x l) 2 0 ≡ x .contents .entries
+  entries : getD (putMessage x l) 2 0 ≡ x .body .entries
   unfolding stands
   entries = at 2 (omega arith)
 
-  has-status : getD (putMessage x l) 36 0 ≡ cond (x .contents .entry .«has_status») 1 0
+  has-status : getD (putMessage x l) 36 0 ≡ cond (x .body .entry .«has_status») 1 0
   unfolding stands
   has-status = at 36 (omega arith)
 

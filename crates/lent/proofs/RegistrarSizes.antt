@@ -19,13 +19,13 @@ use Rattle.protocol.specs.declared.TransactionTable.{TransactionTable}
 use Rattle.protocol.specs.declared.RegistrarAnswer.{RegistrarAnswer}
 use Rattle.protocol.specs.Bytes.{asId, asNonce}
 use Rattle.protocol.specs.Message.{Fields, fieldsOf}
-use Rattle.protocol.specs.Refusals.{Check, pass, stop, check}
+use Rattle.protocol.specs.Refusals.{LowestRow, pass, stop, lowestRow}
 use Rattle.protocol.specs.RegistrarRows.{registrarRows}
 use Rattle.protocol.specs.States.{isAsked, isGranted, mayClose}
 use Rattle.protocol.specs.Table.{lookup, slotOf, freeSlot}
 use Rattle.protocol.specs.Registrar.{hostStep, refusedQuietly, registrarIssue, registrarRefuse, registrarLapse, registrarClose, registrarChecked, registrarFields, registrarRead, registrarMessage}
 use Rattle.protocol.proofs.Tests.{cases}
-use Rattle.packed.specs.Table.{Sized, TableSized}
+use Rattle.packed.specs.Table.{TransactionSized, TableSized}
 use Rattle.packed.specs.Outgoing.{OutgoingSized}
 use Rattle.packed.specs.Answer.{OutcomeBack}
 use Rattle.lent.proofs.Sizes.{bit-back, silent-sized, Late, late, sixteen, lookup-sized, replace-sized, put-sized, free-sized, slot-bound, free-bound}
@@ -48,7 +48,7 @@ module _ (t : TransactionTable) (z : TableSized t) where
 
   module _ (i : TransactionId) (e : length (i .bytes) ≡ 16) where
     host : (ok : Transaction → Bool) (g : Transaction → RegistrarAnswer) (f : Option Transaction) → lookup (t .transactions) i ≡ f
-        → ((r : Transaction) → Sized r → RegistrarSized (g r)) → RegistrarSized (hostStep f t ok g)
+        → ((r : Transaction) → TransactionSized r → RegistrarSized (g r)) → RegistrarSized (hostStep f t ok g)
     host ok g none h s = record { table = z; outgoing = silent-sized; outcome = bit-back 30 false; slot = omega arith }
     host ok g (some r) h s =
         cases RegistrarSized (ok r) (g r) (refusedQuietly 31 t) (λ _. s r (lookup-sized (t .transactions) i (z .each) r h))
@@ -95,12 +95,12 @@ module _ (t : TransactionTable) (z : TableSized t) where
     abbrev NamesSized : Fields → Type 0
     NamesSized m = (length (asId (m .id) .bytes) ≡ 16) × (length (asNonce (m .senderNonce) .bytes) ≡ 16)
 
-    names : (m : Fields) (f : Option Transaction) (c : Check) → check (registrarRows (t .transactions) f (d .verdict) m) ≡ c → Late c → NamesSized m
+    names : (m : Fields) (f : Option Transaction) (c : LowestRow) → lowestRow (registrarRows (t .transactions) f (d .verdict) m) ≡ c → Late c → NamesSized m
     unfolding registrarRows
     names m f c e l = let q : _ × _ = late _ _ _ _ (subst Late (sym e) l) in (sixteen (m .id) (q .0), sixteen (m .senderNonce) (q .1))
 
-    checked-sized : (m : Fields) (f : Option Transaction) → lookup (t .transactions) (asId (m .id)) ≡ f → (c : Check)
-        → check (registrarRows (t .transactions) f (d .verdict) m) ≡ c → RegistrarSized (registrarChecked c f t d m)
+    checked-sized : (m : Fields) (f : Option Transaction) → lookup (t .transactions) (asId (m .id)) ≡ f → (c : LowestRow)
+        → lowestRow (registrarRows (t .transactions) f (d .verdict) m) ≡ c → RegistrarSized (registrarChecked c f t d m)
     unfolding registrarChecked
     checked-sized m f h (stop k) e =
         record {
@@ -114,7 +114,7 @@ module _ (t : TransactionTable) (z : TableSized t) where
         record { table = put-sized t z _ (record { id = q .0; taken = q .1; sent = refl; hash = refl }); outgoing = silent-sized; outcome = tt; slot = free-small t z }
     checked-sized m (some r) h pass e =
         let q : NamesSized m = names m (some r) pass e tt in
-        let s : Sized r = lookup-sized (t .transactions) (asId (m .id)) (z .each) r h in
+        let s : TransactionSized r = lookup-sized (t .transactions) (asId (m .id)) (z .each) r h in
         let o : OutgoingSized _ = record { id = q .0; sender = n; recip = q .1; hash = refl; failure = refl } in
         cases RegistrarSized (isGranted (r .state)) _ _
         (λ _. record { table = replace-sized t z (asId (m .id)) _ (record { id = s .id; taken = q .1; sent = s .sent; hash = s .hash }); outgoing = o; outcome = tt; slot = slot-small t z (asId (m .id)) })

@@ -16,14 +16,14 @@ use Rattle.protocol.specs.declared.Transaction.{Transaction}
 use Rattle.protocol.specs.declared.TransactionTable.{TransactionTable}
 use Rattle.protocol.specs.Bytes.{bytesOf}
 use Rattle.protocol.specs.Table.{capacity, lookup, slotOf, freeSlot, replace, put, isFor, isFree, freeTransaction, emptyTable}
-use Rattle.protocol.specs.Refusals.{NumberBit, bits, bitIn, bitOf, Row, row, Check, pass, stop, check, notSixteen}
+use Rattle.protocol.specs.Refusals.{NumberBit, bits, bitIn, bitOf, Row, row, LowestRow, pass, stop, lowestRow, notSixteen}
 use Rattle.protocol.specs.Outgoing.{silent}
 use Rattle.protocol.proofs.Tests.{true-false, none-some, some-some, cases}
 use Rattle.packed.specs.declared.arrays.Unpacked16.{Unpacked16}
 use Rattle.packed.specs.declared.arrays.Unpacked32.{Unpacked32}
 use Rattle.packed.specs.Arrays.{unpack16, unpack32}
 use Rattle.packed.specs.Outgoing.{failureNumber, failureOf, OutgoingSized}
-use Rattle.packed.specs.Table.{Sized, AllSized, TableSized}
+use Rattle.packed.specs.Table.{TransactionSized, AllSized, TableSized}
 
 -- ## What is handed in: 16 or 32 bytes, whatever the host lends
 
@@ -68,12 +68,12 @@ silent-sized = record { id = refl; sender = refl; recip = refl; hash = refl; fai
 
 -- ## A message: past rows 3 to 5 its id and its senderNonce have 16 bytes
 
-abbrev pub Late : Check → Type 0
+abbrev pub Late : LowestRow → Type 0
 Late pass = Unit {0}
 Late (stop k) = leb 6 k ≡ true
 
-pub late : (a b c : Bool) (rest : List Row) → Late (check (row 3 a ∷ row 4 b ∷ row 5 c ∷ rest)) → (b ≡ false) × (c ≡ false)
-unfolding check
+pub late : (a b c : Bool) (rest : List Row) → Late (lowestRow (row 3 a ∷ row 4 b ∷ row 5 c ∷ rest)) → (b ≡ false) × (c ≡ false)
+unfolding lowestRow
 late true b c rest h = true-false (sym h)
 late false true c rest h = true-false (sym h)
 late false false true rest h = true-false (sym h)
@@ -85,11 +85,11 @@ sixteen (some b) e = eqb-true _ _ (not-false _ e)
 
 -- ## Rows of the table
 
-pub lookup-sized : (rs : List Transaction) (i : TransactionId) → AllSized rs → (r : Transaction) → lookup rs i ≡ some r → Sized r
+pub lookup-sized : (rs : List Transaction) (i : TransactionId) → AllSized rs → (r : Transaction) → lookup rs i ≡ some r → TransactionSized r
 unfolding lookup
 lookup-sized [] i z r e = none-some e
 lookup-sized (x ∷ rs) i z r e =
-    cases (λ (o : Option Transaction). o ≡ some r → Sized r) (isFor i x) (some x) (lookup rs i) (λ _ q. subst Sized (some-some q) (z .0)) (λ _ q. lookup-sized rs i (z .1) r q) e
+    cases (λ (o : Option Transaction). o ≡ some r → TransactionSized r) (isFor i x) (some x) (lookup rs i) (λ _ q. subst TransactionSized (some-some q) (z .0)) (λ _ q. lookup-sized rs i (z .1) r q) e
 
 -- slots are below their number, or it
 pub slot-bound : (rs : List Transaction) (i : TransactionId) → slotOf rs i ≤ length rs
@@ -106,14 +106,14 @@ free-bound (x ∷ rs) = let h : freeSlot rs ≤ length rs = free-bound rs in cas
 abbrev RowsLike : List Transaction → List Transaction → Type 0
 RowsLike rs us = (length us ≡ length rs) × AllSized us
 
-replace-like : (rs : List Transaction) (i : TransactionId) (x : Transaction) → AllSized rs → Sized x → RowsLike rs (replace rs i x)
+replace-like : (rs : List Transaction) (i : TransactionId) (x : Transaction) → AllSized rs → TransactionSized x → RowsLike rs (replace rs i x)
 unfolding replace
 replace-like [] i x z h = (refl, z)
 replace-like (r ∷ rs) i x z h =
     cases (RowsLike (r ∷ rs)) (isFor i r) (x ∷ rs) (r ∷ replace rs i x) (λ _. (refl, (h, z .1)))
     (λ _. let q : RowsLike rs (replace rs i x) = replace-like rs i x (z .1) h in (ap suc (q .0), (z .0, q .1)))
 
-put-like : (rs : List Transaction) (x : Transaction) → AllSized rs → Sized x → RowsLike rs (put rs x)
+put-like : (rs : List Transaction) (x : Transaction) → AllSized rs → TransactionSized x → RowsLike rs (put rs x)
 unfolding put
 put-like [] x z h = (refl, z)
 put-like (r ∷ rs) x z h =
@@ -121,16 +121,16 @@ put-like (r ∷ rs) x z h =
     (λ _. let q : RowsLike rs (put rs x) = put-like rs x (z .1) h in (ap suc (q .0), (z .0, q .1)))
 
 module _ (t : TransactionTable) (z : TableSized t) where
-  pub replace-sized : (i : TransactionId) (x : Transaction) → Sized x → TableSized (record { transactions = replace (t .transactions) i x })
+  pub replace-sized : (i : TransactionId) (x : Transaction) → TransactionSized x → TableSized (record { transactions = replace (t .transactions) i x })
   replace-sized i x h = let q : RowsLike (t .transactions) (replace (t .transactions) i x) = replace-like (t .transactions) i x (z .each) h in record { slots = q .0 ∙ z .slots; each = q .1 }
 
-  pub put-sized : (x : Transaction) → Sized x → TableSized (record { transactions = put (t .transactions) x })
+  pub put-sized : (x : Transaction) → TransactionSized x → TableSized (record { transactions = put (t .transactions) x })
   put-sized x h = let q : RowsLike (t .transactions) (put (t .transactions) x) = put-like (t .transactions) x (z .each) h in record { slots = q .0 ∙ z .slots; each = q .1 }
 
-pub free-sized : Sized freeTransaction
+pub free-sized : TransactionSized freeTransaction
 free-sized = record { id = refl; taken = refl; sent = refl; hash = refl }
 
-replicate-sized : (n : ℕ) (x : Transaction) → Sized x → AllSized (replicate n x)
+replicate-sized : (n : ℕ) (x : Transaction) → TransactionSized x → AllSized (replicate n x)
 replicate-sized zero x z = tt
 replicate-sized (suc n) x z = (z, replicate-sized n x z)
 

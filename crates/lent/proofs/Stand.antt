@@ -21,7 +21,7 @@ use Rattle.packed.specs.Bytes.{packAt}
 use Rattle.packed.specs.Outgoing.{OutgoingSized}
 use Rattle.packed.specs.Answer.{outcomeNumber, registrarAnswerBytes, packRegistrarAnswer, endEntityAnswerBytes, packEndEntityAnswer}
 use Rattle.packed.specs.Table.{tableBytes, statesGood, packTable, unpackTable, packTableIn, TableSized}
-use Rattle.packed.specs.Enrolment.{enrolmentBytes, packEnrolment, unpackEnrolment, packEnrolmentIn, Sized}
+use Rattle.packed.specs.Enrolment.{enrolmentBytes, packEnrolment, unpackEnrolment, packEnrolmentIn, EnrolmentSized}
 use Rattle.packed.proofs.Tests.{both}
 use Rattle.packed.proofs.AnswerInverse.{registrar-sends-back, registrar-outgoing-back, end-entity-sends-back, end-entity-outgoing-back}
 use Rattle.packed.proofs.TableInverse as table-inverse
@@ -32,7 +32,7 @@ use Rattle.lent.specs.Lent.{LentEnrolment, LentWorld, isMade, registrarS
 pub record Stand (e : LentEnrolment) (x : BoardEnrolment) : Type 0 where
   pub board : e .board ≡ x .board
   pub bytes : e .bytes ≡ packEnrolment (x .enrolment)
-  pub sized : Sized (x .enrolment)
+  pub sized : EnrolmentSized (x .enrolment)
 
 abbrev pub AllStand : List LentEnrolment → List BoardEnrolment → Type 0
 AllStand [] [] = Unit {0}
@@ -92,7 +92,7 @@ pub table-in : (s : List ℕ) (t : TransactionTable) → unpackTable s .ok ≡ t
 unfolding packTableIn unpackTable
 table-in s t h = rw ((both (λ (u : UnpackedTable). u .ok) _ _ refl (eqb (length s) tableBytes) (statesGood capacity s) h) .0)
 
-pub enrolment-read : {s : List ℕ} (x : Enrolment) → Sized x → s ≡ packEnrolment x → unpackEnrolment s ≡ record { ok = true; enrolment = x }
+pub enrolment-read : {s : List ℕ} (x : Enrolment) → EnrolmentSized x → s ≡ packEnrolment x → unpackEnrolment s ≡ record { ok = true; enrolment = x }
 enrolment-read x z e = ap unpackEnrolment e ∙ enrolment-inverse.unpack-packed x z
 
 pub enrolment-in : (s : List ℕ) (x : Enrolment) → unpackEnrolment s .ok ≡ true → packEnrolmentIn x s ≡ packEnrolment x

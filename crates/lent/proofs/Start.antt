@@ -8,7 +8,7 @@ use lib.Dec.{eqb, leb}
 use Rattle.protocol.specs.declared.Board.{Board}
 use Rattle.protocol.specs.declared.FailureInfo.{FailureInfo}
 use Rattle.protocol.specs.declared.EndEntityAnswer.{EndEntityAnswer}
-use Rattle.message.specs.declared.Fault.{Fault}
+use Rattle.message.specs.declared.ReadFault.{ReadFault}
 use Rattle.protocol.specs.declared.Outgoing.{Outgoing}
 use Rattle.protocol.specs.declared.Enrolment.{Enrolment}
 use Rattle.protocol.specs.declared.Outcome.{Outcome}
@@ -35,10 +35,10 @@ module _ (l : LentWorld) (w : World) (st : Stands l w) (d : Board) (s : List ℕ
   After a x = Stands (startLent l c d x) (cond (isMade (x .code)) (startDid w (callOf c) d a (unlessRefused (a .outcome) (idOf i))) w)
 
   -- an answer whose outcome is not a variable
-  abbrev with : Outcome → Fault → Bool → Outgoing → Enrolment → EndEntityAnswer
+  abbrev with : Outcome → ReadFault → Bool → Outgoing → Enrolment → EndEntityAnswer
   with o f v g y = record { outcome = o; fault = f; sends = v; outgoing = g; enrolment = y }
 
-  module _ (f : Fault) (v : Bool) (g : Outgoing) (y : Enrolment) where
+  module _ (f : ReadFault) (v : Bool) (g : Outgoing) (y : Enrolment) where
     done : EndEntitySized (with Done f v g y) → eqb (length s) enrolmentBytes ≡ true → leb endEntityAnswerBytes (length b) ≡ true
         → After (with Done f v g y) (startWritten (with Done f v g y) s b)
     unfolding eventsOf packEnrolmentIn

@@ -16,7 +16,7 @@ use Rattle.protocol.specs.Run.{World, BoardEnrolment, registrarDid, enrolmentDi
 use Rattle.packed.specs.declared.table.UnpackedTable.{UnpackedTable}
 use Rattle.packed.specs.declared.enrolment.UnpackedEnrolment.{UnpackedEnrolment}
 use Rattle.packed.specs.Answer.{registrarAnswerBytes, endEntityAnswerBytes, outcomeOf}
-use Rattle.packed.specs.Enrolment.{unpackEnrolment, Sized}
+use Rattle.packed.specs.Enrolment.{unpackEnrolment, EnrolmentSized}
 use Rattle.packed.proofs.AnswerInverse.{registrar-outcome-back}
 use Rattle.duskstall.specs.Boundary.{Crossing, boundaryFault, unlessFaulty, registrarWritten, registrarAnswered, registrarCrossing, endEntityWritten, endEntityAnswered, endEntityCrossing}
 use Rattle.lent.specs.Lent.{LentCall, callOf, LentEnrolment, LentWorld, heldBytes, registrarLent, enrolmentLent, isMade, sentOf, drawnOf, closedOf, eventsOf, registrarSent, endEntitySent}
@@ -107,7 +107,7 @@ module _ (l : LentWorld) (w : World) (st : Stands l w) where
       board-crossed p = subst (AfterBoard (some e) (some x)) (ap (λ (u : UnpackedEnrolment). endEntityAnswered (u .ok) p (f (u .enrolment)) (e .bytes) b) (sym read-it)) (board-answered p)
 
     pub enrolment-step : (e : Option LentEnrolment) (x : Option BoardEnrolment) → getElem? (l .enrolments) k ≡ e → BothStand e x
-        → ((y : Enrolment) → Sized y → EndEntitySized (f y)) → (p : Bool) (b : List ℕ) → AfterBoard e x (endEntityCrossing p f (heldBytes e) b)
+        → ((y : Enrolment) → EnrolmentSized y → EndEntitySized (f y)) → (p : Bool) (b : List ℕ) → AfterBoard e x (endEntityCrossing p f (heldBytes e) b)
     unfolding eventsOf endEntityAnswered unpackEnrolment
     enrolment-step none none h s z p b = record { table = st .table; sized = st .sized; enrolments = st .enrolments; past = st .past; tables = (table-ok st, st .tables) }
     enrolment-step none (some x) h s z p b = absurd s

@@ -21,7 +21,7 @@ use Rattle.protocol.proofs.Witness.{witnesses}
 use Rattle.packed.specs.Arrays.{unpack16, unpack32}
 use Rattle.packed.specs.Answer.{registrarAnswerBytes, endEntityAnswerBytes}
 use Rattle.packed.specs.Table.{tableBytes}
-use Rattle.packed.specs.Enrolment.{stateNumber, enrolmentBytes, unpackEnrolment}
+use Rattle.packed.specs.Enrolment.{enrolmentStateNumber, enrolmentBytes, unpackEnrolment}
 use Rattle.duskstall.specs.Boundary.{Crossing, yes, startCrossing}
 use Rattle.lent.specs.Calls.{RegistrarMessage, RegistrarIssue, EndEntityMessage}
 use Rattle.lent.specs.Lent.{LentCall, AtRegistrar, AtEndEntity, EndEntityStart, callOf, LentEnrolment, LentWorld, enrolmentsOf, crossing, isMade, lentStep, lentAfter, lentBeginning, made, worldOf, enrolmentLent}
@@ -169,14 +169,14 @@ module _ (s : List ℕ) (e : length s ≡ tableBytes) (accept : ℕ) (confirm : 
     fair = same-premise s (lentEnrols accept confirm) .1 (subst (λ (w : World). Fair (w .past)) (sym same) (ends-in .fair))
 
     -- the state's number is that of Sure or Declined, for which the agreement finds the transaction
-    ends : ((x : LentEnrolment) → HeaderAgreement l₆ → getElem? (l₆ .enrolments) 0 ≡ some x → enrolmentState (x .bytes) ≡ stateNumber b → FoundBytes l₆ x (stateNumber b))
-        → LentEnds s (lentEnrols accept confirm) (stateNumber b)
+    ends : ((x : LentEnrolment) → HeaderAgreement l₆ → getElem? (l₆ .enrolments) 0 ≡ some x → enrolmentState (x .bytes) ≡ enrolmentStateNumber b → FoundBytes l₆ x (enrolmentStateNumber b))
+        → LentEnds s (lentEnrols accept confirm) (enrolmentStateNumber b)
     ends find =
         let g : (x : LentEnrolment) × (getElem? (l₆ .enrolments) 0 ≡ some x) = some-at (l₆ .enrolments) 0 there₆ in
         let h : (getElem? (enrolmentsOf (l₆ .enrolments)) 0 ≡ some (shown (g .0))) × (unpackEnrolment (g .0 .bytes) .ok ≡ true) = held-bytes (l₆ .enrolments) (lent-runs s e (lentEnrols accept confirm) .enrolments) 0 (g .0) (g .1) in
-        let state : enrolmentState (g .0 .bytes) ≡ stateNumber b = said (g .0 .bytes) (h .1) b (says-state (worldOf l₆) (shown (g .0)) b (h .0) (ap boardSays same ∙ ends-in .says)) in
+        let state : enrolmentState (g .0 .bytes) ≡ enrolmentStateNumber b = said (g .0 .bytes) (h .1) b (says-state (worldOf l₆) (shown (g .0)) b (h .0) (ap boardSays same ∙ ends-in .says)) in
         let agrees : HeaderAgreement l₆ = header-demand3 s e (lentEnrols accept confirm) fair in
-        let f : FoundBytes l₆ (g .0) (stateNumber b) = find (g .0) agrees (g .1) state in
+        let f : FoundBytes l₆ (g .0) (enrolmentStateNumber b) = find (g .0) agrees (g .1) state in
         record { fair = fair; agrees = agrees; held = g .0; holds = g .1; says = state; nonce = outgoingRecipNonce (f .0); slot = open-slot (f .3) (not-closed _ _) }
 
 pub lent-witnesses : LentWitnesses

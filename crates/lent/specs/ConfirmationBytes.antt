@@ -19,18 +19,18 @@ use Rattle.duskstall.specs.Boundary.{Crossing}
 use Rattle.duskstall.specs.Calls.{registrarInput}
 use Rattle.lent.specs.Calls.{RegistrarMessage}
 use Rattle.lent.specs.Lent.{LentCall, AtRegistrar, LentWorld, crossing, isMade, lentAfter, lentBeginning}
-use Rattle.lent.specs.Reads.{registrarRead, tableIn}
+use Rattle.lent.specs.Reads.{registrarReadBack, tableIn}
 
 -- a confirmation m, in these bytes, on the table t that the bytes s stand for; the call ended in x
 pub record BytesConfirmed (t : TransactionTable) (d : RegistrarInput) (bytes : List ℕ) (m : Message) (s : List ℕ) (x : Crossing) : Type 0 where
   -- it returns 0 exactly when it moves a transaction, and the bytes are then the complete answer
   pub moves : x .code ≡ 0 → (r : Transaction) × Moving t d bytes m r
   pub done : (r : Transaction) → Moving t d bytes m r → x .code ≡ 0
-  pub moved : (r : Transaction) (c : Moving t d bytes m r) → (v : TransactionState) → LeadsTo m v → registrarRead x ≡ movedAnswer t d r (c .match .id) (c .match .nonce) v
+  pub moved : (r : Transaction) (c : Moving t d bytes m r) → (v : TransactionState) → LeadsTo m v → registrarReadBack x ≡ movedAnswer t d r (c .match .id) (c .match .nonce) v
   -- 1 exactly when it repeats the one that did
   pub repeats : x .code ≡ 1 → (r : Transaction) × Repeating t d bytes m r
   pub again : (r : Transaction) → Repeating t d bytes m r → x .code ≡ 1
-  pub repeated : (r : Transaction) (c : Repeating t d bytes m r) → registrarRead x ≡ repeatedAnswer t d (c .match .id) (c .match .nonce)
+  pub repeated : (r : Transaction) (c : Repeating t d bytes m r) → registrarReadBack x ≡ repeatedAnswer t d (c .match .id) (c .match .nonce)
   -- unless it moves one, the table's bytes stay
   pub else : x .code ≢ 0 → x .state ≡ s
 
@@ -41,7 +41,7 @@ ConfirmsBytes w =
     → isMade (crossing w (AtRegistrar (RegistrarMessage bytes good board nonce) answer) .code) ≡ true
     → (m : Message)
     → readingOf bytes ≡ read.Clean m
-    → m .contents .kind ≡ 24
+    → m .body .kind ≡ 24
     → BytesConfirmed (tableIn w) (registrarInput good board nonce) bytes m (w .table) (crossing w (AtRegistrar (RegistrarMessage bytes good board nonce) answer))
 
 -- whatever is lent

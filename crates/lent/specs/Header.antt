@@ -50,19 +50,19 @@ Taken e = ltb (e .code) 2 ≡ true
 -- the message m, in these bytes, is what the bytes o say is to be sent
 pub record CarriesBytes (bytes : List ℕ) (m : Message) (o : List ℕ) : Type 0 where
   -- "the same kind, id and nonces,"
-  pub kind : m .contents .kind ≡ outgoingKind o
-  pub id : HasPart bytes (m .fields .«transaction_id») (outgoingId o)
-  pub senderNonce : HasPart bytes (m .fields .«sender_nonce») (outgoingSenderNonce o)
-  pub recipNonce : outgoingHasRecipNonce o ≡ 1 → HasPart bytes (m .fields .«recip_nonce») (outgoingRecipNonce o)
-  pub noRecipNonce : outgoingHasRecipNonce o ≢ 1 → m .fields .«recip_nonce» .start .0 ≡ 0
+  pub kind : m .body .kind ≡ outgoingKind o
+  pub id : HasPart bytes (m .header .«transaction_id») (outgoingId o)
+  pub senderNonce : HasPart bytes (m .header .«sender_nonce») (outgoingSenderNonce o)
+  pub recipNonce : outgoingHasRecipNonce o ≡ 1 → HasPart bytes (m .header .«recip_nonce») (outgoingRecipNonce o)
+  pub noRecipNonce : outgoingHasRecipNonce o ≢ 1 → m .header .«recip_nonce» .start .0 ≡ 0
   -- "the same status where the order has one (in a certConf none counts as 0),"
   pub status :
       outgoingHasStatus o ≡ 1
-      → (m .contents .kind ≡ 23) ⊎ (m .contents .entries ≡ 1)
-      → ((m .contents .entry .«has_status» ≡ true) × (m .contents .entry .status ≡ outgoingStatus o))
-      ⊎ ((m .contents .kind ≡ 24) × (m .contents .entry .«has_status» ≡ false) × (outgoingStatus o ≡ 0))
+      → (m .body .kind ≡ 23) ⊎ (m .body .entries ≡ 1)
+      → ((m .body .entry .«has_status» ≡ true) × (m .body .entry .status ≡ outgoingStatus o))
+      ⊎ ((m .body .kind ≡ 24) × (m .body .entry .«has_status» ≡ false) × (outgoingStatus o ≡ 0))
   -- "and in a certConf the same hash."
-  pub hash : m .contents .kind ≡ 24 → m .contents .entries ≡ 1 → PartIs bytes (m .contents .entry .«cert_hash») (outgoingHash o)
+  pub hash : m .body .kind ≡ 24 → m .body .entries ≡ 1 → PartIs bytes (m .body .entry .«cert_hash») (outgoingHash o)
 
 -- nothing is asked of bytes that do not read
 abbrev pub IssuedBytes : End → List ℕ → Reading → List LentEvent → Type 0

@@ -52,12 +52,12 @@ pub record HostCall : Type 0 where
 abbrev pub lentBy : LentWorld → HostCall → LentWorld
 lentBy w h = lending w (h .call) (h .state)
 
-abbrev pub hostStep : LentWorld → HostCall → LentWorld
-hostStep w h = lentStep (lentBy w h) (h .call)
+abbrev pub hostCalls : LentWorld → HostCall → LentWorld
+hostCalls w h = lentStep (lentBy w h) (h .call)
 
 unfoldable pub hostAfter : LentWorld → List HostCall → LentWorld
 hostAfter w [] = w
-hostAfter w (h ∷ hs) = hostAfter (hostStep w h) hs
+hostAfter w (h ∷ hs) = hostAfter (hostCalls w h) hs
 
 unfoldable pub callsOf : List HostCall → List LentCall
 callsOf [] = []
@@ -70,7 +70,7 @@ AsLeft w h = h .state ≡ stateLent w (h .call)
 
 abbrev pub AllAsLeft : LentWorld → List HostCall → Type 0
 AllAsLeft w [] = Unit {0}
-AllAsLeft w (h ∷ hs) = AsLeft w h × AllAsLeft (hostStep w h) hs
+AllAsLeft w (h ∷ hs) = AsLeft w h × AllAsLeft (hostCalls w h) hs
 
 -- the bytes are then those of the list of calls
 abbrev pub HostRuns : Type 0
@@ -131,7 +131,7 @@ pub record OnAnyBytes (w : LentWorld) (h : HostCall) : Type 0 where
   -- its answer is that of the call on what they stand for
   pub reads : isMade (crossing (lentBy w h) (h .call) .code) ≡ true → ReadsBack (lentBy w h) (h .call)
   -- no other bytes change
-  pub others : OnlyThere w (hostStep w h) (statePlace (h .call)) (crossing (lentBy w h) (h .call))
+  pub others : OnlyThere w (hostCalls w h) (statePlace (h .call)) (crossing (lentBy w h) (h .call))
 
 -- w: whatever the calls before did with whatever was lent to them
 abbrev pub HostOnAnyBytes : Type 0

@@ -12,7 +12,7 @@ use Rattle.protocol.specs.EndEntity.{endEntityStart}
 use Rattle.protocol.specs.Promises.{AtMostOne, AllUnsetZero}
 use Rattle.packed.specs.Bytes.{flagAt}
 use Rattle.packed.specs.Outgoing.{outgoingOf}
-use Rattle.packed.specs.Answer.{outcomeNumber, outcomeOf, faultOf, registrarAnswerOf, endEntityAnswerOf}
+use Rattle.packed.specs.Answer.{outcomeNumber, outcomeOf, readFaultOf, registrarAnswerOf, endEntityAnswerOf}
 use Rattle.packed.specs.Table.{tableBytes, unpackTable}
 use Rattle.packed.specs.Enrolment.{unpackEnrolment}
 use Rattle.duskstall.specs.Boundary.{Crossing}
@@ -21,11 +21,11 @@ use Rattle.lent.specs.Calls.{registrarAnswers, endEntityAnswers}
 use Rattle.lent.specs.Lent.{LentCall, AtRegistrar, AtEndEntity, EndEntityStart, LentWorld, heldBytes, crossing, isMade, lentAfter, lentBeginning}
 use Rattle.lent.specs.Kept.{LentPromise}
 
-abbrev pub registrarRead : Crossing → RegistrarAnswer
-registrarRead x = registrarAnswerOf (x .answer) (x .state)
+abbrev pub registrarReadBack : Crossing → RegistrarAnswer
+registrarReadBack x = registrarAnswerOf (x .answer) (x .state)
 
-abbrev pub endEntityRead : Crossing → EndEntityAnswer
-endEntityRead x = endEntityAnswerOf (x .answer) (x .state)
+abbrev pub endEntityReadBack : Crossing → EndEntityAnswer
+endEntityReadBack x = endEntityAnswerOf (x .answer) (x .state)
 
 abbrev pub tableIn : LentWorld → TransactionTable
 tableIn w = unpackTable (w .table) .table
@@ -36,17 +36,17 @@ enrolmentIn w k = unpackEnrolment (heldBytes (getElem? (w .enrolments) k)) .enro
 -- what a call returned, and what it left in the bytes, say the answer
 pub record RegistrarReads (x : Crossing) (a : RegistrarAnswer) : Type 0 where
   pub code : x .code ≡ outcomeNumber (a .outcome)
-  pub answer : registrarRead x ≡ a
+  pub answer : registrarReadBack x ≡ a
 
 pub record EndEntityReads (x : Crossing) (a : EndEntityAnswer) : Type 0 where
   pub code : x .code ≡ outcomeNumber (a .outcome)
-  pub answer : endEntityRead x ≡ a
+  pub answer : endEntityReadBack x ≡ a
 
 -- of a start; one that is refused leaves no enrolment to read
 pub record StartReads (x : Crossing) (a : EndEntityAnswer) : Type 0 where
   pub code : x .code ≡ outcomeNumber (a .outcome)
   pub outcome : outcomeOf (x .answer) ≡ a .outcome
-  pub fault : faultOf (x .answer) ≡ a .fault
+  pub fault : readFaultOf (x .answer) ≡ a .fault
   pub sends : flagAt 13 (x .answer) ≡ a .sends
   pub outgoing : outgoingOf (drop 14 (x .answer)) ≡ a .outgoing
   pub enrolment : x .code ≡ 0 → unpackEnrolment (x .state) .enrolment ≡ a .enrolment

@@ -19,9 +19,9 @@ use Rattle.grammar.specs.Cursor.{isOk}
 use Rattle.grammar.specs.Message.{messageOf}
 use Rattle.grammar.proofs.Found.{FoundIn, found-in}
 use Rattle.message.specs.declared.Reading.{Reading}
-use Rattle.message.specs.declared.Fault.{Fault as Refusal}
+use Rattle.message.specs.declared.ReadFault.{ReadFault}
 use Rattle.message.specs.declared.Reading.the-variants.{Clean, Refused}
-use Rattle.message.specs.Read.{maxMessage, broken, lowest, readingOf}
+use Rattle.message.specs.Read.{maxMessage, brokenAt, lowest, readingOf}
 
 -- ## The statements
 
@@ -53,7 +53,7 @@ pub record Lowest (m : List ℕ) (at rule : ℕ) : Type 0 where
   pub named : ((check m ≡ Fault at rule) × (1 ≤ rule) × (rule ≤ 4)) ⊎ (Unmet m × (at ≡ messageOf m .cur .at) × (rule ≡ 5) × ((a q : ℕ) → check m ≡ Fault a q → at < a))
 
 -- refusal 2 is of a message of 1 to 16,384 bytes and names the lowest fault
-pub record BrokenAt (m : List ℕ) (r : Refusal) : Type 0 where
+pub record BrokenAt (m : List ℕ) (r : ReadFault) : Type 0 where
   pub some : 1 ≤ length m
   pub few : length m ≤ maxMessage
   pub number : r .number ≡ 2
@@ -73,7 +73,7 @@ no-fault : {v : Check} {a q : ℕ} → v ≡ Sound → v ≡ Fault a q → ⊥
 no-fault e g = let z : _≡_ {A = ℕ} 0 1 = cc in omega arith
 
 module _ (m : List ℕ) (some : 1 ≤ length m) (few : length m ≤ maxMessage) where
-  says-broken : {at rule : ℕ} → Lowest m at rule → Says m (broken at rule)
+  says-broken : {at rule : ℕ} → Lowest m at rule → Says m (brokenAt at rule)
   unfolding Says
   says-broken l = inr (record { some = some; few = few; number = refl; lowest = l })
 
@@ -116,7 +116,7 @@ pub clean-places : (m : List ℕ) (x : Message) → readingOf m ≡ Clean x → 
 clean-places m x e = let c = clean-found m x e in subst (FoundIn (length m)) (sym (c .found)) (found-in m (c .met))
 
 -- LOWEST FAULT: refusal 2 names the lowest of the two faults, and DER's where both stand at one offset
-pub refused-lowest : (m : List ℕ) (r : Refusal) → readingOf m ≡ Refused r → r .number ≡ 2 → Lowest m (r .at .0) (r .rule)
+pub refused-lowest : (m : List ℕ) (r : ReadFault) → readingOf m ≡ Refused r → r .number ≡ 2 → Lowest m (r .at .0) (r .rule)
 unfolding Says
 refused-lowest m r e n = go (subst (Says m) e (says m))
   where
@@ -130,7 +130,7 @@ Numbered n (Clean x) = ⊥
 Numbered n (Refused r) = r .number ≡ n
 
 -- NO OTHER NUMBER: a reading is clean or refused by 1 or by 2
-pub refused-only : (m : List ℕ) (r : Refusal) → readingOf m ≡ Refused r → (r .number ≡ 1) ⊎ (r .number ≡ 2)
+pub refused-only : (m : List ℕ) (r : ReadFault) → readingOf m ≡ Refused r → (r .number ≡ 1) ⊎ (r .number ≡ 2)
 unfolding Says
 refused-only m r e = ⊎-elim (λ p. inl (p .0)) (λ b. inr (b .number)) (subst (Says m) e (says m))
 

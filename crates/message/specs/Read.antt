@@ -24,13 +24,13 @@ abbrev pub badLength : Reading
 badLength = Refused (record { number = 1; at = record { 0 = 0 }; rule = 0 })
 
 -- refusal 2: not DER or not the grammar, at an offset, by the lowest rule broken there
-abbrev pub broken : ℕ → ℕ → Reading
-broken at rule = Refused (record { number = 2; at = record { 0 = at }; rule = rule })
+abbrev pub brokenAt : ℕ → ℕ → Reading
+brokenAt at rule = Refused (record { number = 2; at = record { 0 = at }; rule = rule })
 
 -- the lower of the two faults, if there is one; at one offset DER's rules 1 to 4 come before the grammar's 5
 unfoldable pub lowest : Check → MessageRead → Reading
-lowest Sound g = cond (isOk (g .cur)) (Clean (g .found)) (broken (g .cur .at) 5)
-lowest (Fault at rule) g = cond (isOk (g .cur)) (broken at rule) (cond (ltb (g .cur .at) at) (broken (g .cur .at) 5) (broken at rule))
+lowest Sound g = cond (isOk (g .cur)) (Clean (g .found)) (brokenAt (g .cur .at) 5)
+lowest (Fault at rule) g = cond (isOk (g .cur)) (brokenAt at rule) (cond (ltb (g .cur .at) at) (brokenAt (g .cur .at) 5) (brokenAt at rule))
 
 unfoldable pub readingOf : List ℕ → Reading
 readingOf m = cond (eqb (length m) 0 || ltb maxMessage (length m)) badLength (lowest (check m) (messageOf m))
@@ -43,4 +43,4 @@ spanBytes m s = partOf m (s .start .0) (s .len)
 
 -- the content length of the protected part, the DER SEQUENCE of header and body (RFC 9810 5.1.3); 0 where one of the two is longer than a message may be
 unfoldable pub protectedLength : Message → ℕ
-protectedLength m = cond (ltb maxMessage (m .header .len) || ltb maxMessage (m .body .len)) 0 (m .header .len + m .body .len)
+protectedLength m = cond (ltb maxMessage (m .«header_span» .len) || ltb maxMessage (m .«body_span» .len)) 0 (m .«header_span» .len + m .«body_span» .len)

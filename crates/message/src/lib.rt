@@ -8,13 +8,13 @@ use grammar::part_at;
 use grammar::pki_message::MessageRead;
 use grammar::pki_message::read_message;
 ghost use mathlib.Core.Path.{_≡_};
-ghost use Rattle.message.specs.Read.{badLength, broken, lowest, readingOf, spanBytes, protectedLength};
+ghost use Rattle.message.specs.Read.{badLength, brokenAt, lowest, readingOf, spanBytes, protectedLength};
 
 // The longest message, in bytes.
 pub const MAX_MESSAGE: usize = 16384;
 
 // Refusal 1 or 2; of 2 the first fault's offset and the lowest rule broken there (1 to 4 are DER's, 5 the grammar's).
-pub struct Fault {
+pub struct ReadFault {
     pub number: u8,
     pub at: Offset,
     pub rule: u8,
@@ -22,13 +22,13 @@ pub struct Fault {
 
 pub enum Reading {
     Clean(Message),
-    Refused(Fault),
+    Refused(ReadFault),
 }
 
 fn broken_at(at: usize, rule: u8) -> Reading
-    ensures { λ r. ⌜ r ≡ broken at rule ⌝ }
+    ensures { λ r. ⌜ r ≡ brokenAt at rule ⌝ }
 {
-    Reading::Refused(Fault {
+    Reading::Refused(ReadFault {
         number: 2,
         at: Offset(at),
         rule,
@@ -82,7 +82,7 @@ pub fn read(message: &[u8]) -> Reading
 fn too_short_or_long() -> Reading
     ensures { λ r. ⌜ r ≡ badLength ⌝ }
 {
-    Reading::Refused(Fault {
+    Reading::Refused(ReadFault {
         number: 1,
         at: Offset(0),
         rule: 0,
@@ -99,16 +99,16 @@ pub fn part(message: &[u8], span: Span) -> &[u8]
 
 // The header, the whole element.
 pub fn header_part(message: &[u8], found: Message) -> &[u8]
-    ensures { λ r. ⌜ now r ≡ spanBytes (now (message .entry)) (found .header) ⌝ }
+    ensures { λ r. ⌜ now r ≡ spanBytes (now (message .entry)) (found .«header_span») ⌝ }
 {
-    part(message, found.header)
+    part(message, found.header_span)
 }
 
 // The body, the whole element.
 pub fn body_part(message: &[u8], found: Message) -> &[u8]
-    ensures { λ r. ⌜ now r ≡ spanBytes (now (message .entry)) (found .body) ⌝ }
+    ensures { λ r. ⌜ now r ≡ spanBytes (now (message .entry)) (found .«body_span») ⌝ }
 {
-    part(message, found.body)
+    part(message, found.body_span)
 }
 
 // The protection, the whole element [0].
@@ -120,10 +120,10 @@ pub fn protection_part(message: &[u8], found: Message) -> &[u8]
 
 // The plain certificate of the only response.
 pub fn certificate_part(message: &[u8], found: Message) -> &[u8]
-    ensures { λ r. ⌜ now r ≡ spanBytes (now (message .entry)) (found .contents .entry .certificate) ⌝ }
+    ensures { λ r. ⌜ now r ≡ spanBytes (now (message .entry)) (found .body .entry .certificate) ⌝ }
 {
-    let contents = found.contents;
-    let entry = contents.entry;
+    let body = found.body;
+    let entry = body.entry;
     part(message, entry.certificate)
 }
 
@@ -131,8 +131,8 @@ pub fn certificate_part(message: &[u8], found: Message) -> &[u8]
 pub fn protected_length(found: Message) -> usize
     ensures { λ r. ⌜ r ≡ protectedLength found ⌝ }
 {
-    let header = found.header;
-    let body = found.body;
+    let header = found.header_span;
+    let body = found.body_span;
     if MAX_MESSAGE < header.len {
         return 0;
     }

@@ -14,9 +14,9 @@ use Rattle.protocol.specs.declared.Outcome.{Outcome}
 use Rattle.protocol.specs.declared.Outcome.the-variants.{Done, Again, Refused}
 use Rattle.protocol.specs.declared.RegistrarAnswer.{RegistrarAnswer}
 use Rattle.protocol.specs.declared.EndEntityAnswer.{EndEntityAnswer}
-use Rattle.packed.specs.Bytes.{flagAt, packAt, hasRoom}
+use Rattle.packed.specs.Bytes.{flagAt, packAt, fitsAt}
 use Rattle.packed.specs.Outgoing.{packNames, packStatus, packOutgoing, outgoingOf, OutgoingSized}
-use Rattle.packed.specs.Answer.{outcomeNumber, refusalNumber, packOutcome, packFault, packRegistrarAnswer, packEndEntityAnswer, registrarAnswerBytes, endEntityAnswerBytes, outcomeOf, faultOf, registrarAnswerOf, endEntityAnswerOf, OutcomeBack}
+use Rattle.packed.specs.Answer.{outcomeNumber, refusalNumber, packOutcome, packFault, packRegistrarAnswer, packEndEntityAnswer, registrarAnswerBytes, endEntityAnswerBytes, outcomeOf, readFaultOf, registrarAnswerOf, endEntityAnswerOf, OutcomeBack}
 use Rattle.packed.specs.Table.{unpackTable}
 use Rattle.packed.specs.Enrolment.{unpackEnrolment}
 use Rattle.packed.proofs.OutgoingInverse.{flag-back, outgoing-back}
@@ -27,7 +27,7 @@ outgoing-length o z = simp length-append (omega (arith, z .id, z .sender, z .rec
 
 -- ## An answer in bytes that have room for it
 
-placed : (n : ℕ) (x b : List ℕ) → length x ≡ n → hasRoom 0 n b ≡ true → packAt 0 n x b ≡ x ++ drop (0 + n) b
+placed : (n : ℕ) (x b : List ℕ) → length x ≡ n → fitsAt 0 n b ≡ true → packAt 0 n x b ≡ x ++ drop (0 + n) b
 unfolding packAt
 placed n x b e r =
     let h : 0 + n ≤ length b = leb-true _ _ r in
@@ -57,9 +57,9 @@ module _ (a : RegistrarAnswer) (b : List ℕ) (z : OutgoingSized (a .outgoing)) 
   unfolding packRegistrarAnswer
   registrar-outcome-back h = ap outcomeOf (registrar-placed ∙ append-assoc (packOutcome (a .outcome)) _ _) ∙ outcome-back (a .outcome) _ h
 
-  registrar-fault-back : faultOf (packAt 0 registrarAnswerBytes (packRegistrarAnswer a) b) ≡ a .fault
+  registrar-fault-back : readFaultOf (packAt 0 registrarAnswerBytes (packRegistrarAnswer a) b) ≡ a .fault
   unfolding packRegistrarAnswer packOutcome packFault
-  registrar-fault-back = ap faultOf registrar-placed ∙ rw (four-back (a .fault .at .0 / 4294967296), four-back (a .fault .at .0 % 4294967296), eight-back (a .fault .at .0))
+  registrar-fault-back = ap readFaultOf registrar-placed ∙ rw (four-back (a .fault .at .0 / 4294967296), four-back (a .fault .at .0 % 4294967296), eight-back (a .fault .at .0))
 
   registrar-slot-back : a .slot .0 < 255 → getD (packAt 0 registrarAnswerBytes (packRegistrarAnswer a) b) 13 0 ≡ a .slot .0
   unfolding packRegistrarAnswer packOutcome packFault
@@ -108,9 +108,9 @@ module _ (a : EndEntityAnswer) (b : List ℕ) (z : OutgoingSized (a .outgoing)) 
   unfolding packEndEntityAnswer packOutcome
   end-entity-refusal-at n f e = ap (λ (l : List ℕ). getD l 1 0) end-entity-placed ∙ ap refusalNumber e
 
-  pub end-entity-fault-back : faultOf (packAt 0 endEntityAnswerBytes (packEndEntityAnswer a) b) ≡ a .fault
+  pub end-entity-fault-back : readFaultOf (packAt 0 endEntityAnswerBytes (packEndEntityAnswer a) b) ≡ a .fault
   unfolding packEndEntityAnswer packOutcome packFault
-  end-entity-fault-back = ap faultOf end-entity-placed ∙ rw (four-back (a .fault .at .0 / 4294967296), four-back (a .fault .at .0 % 4294967296), eight-back (a .fault .at .0))
+  end-entity-fault-back = ap readFaultOf end-entity-placed ∙ rw (four-back (a .fault .at .0 / 4294967296), four-back (a .fault .at .0 % 4294967296), eight-back (a .fault .at .0))
 
   pub end-entity-sends-back : flagAt 13 (packAt 0 endEntityAnswerBytes (packEndEntityAnswer a) b) ≡ a .sends
   unfolding packEndEntityAnswer packOutcome packFault

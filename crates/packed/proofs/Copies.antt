@@ -9,7 +9,7 @@ use native.Mathlib.Omega.{arith}
 use borrow.Author.Tests.{le-leb, lt-leb}
 use lib.ListN.{length, take, drop, set, getD, drop-of-length-le, length-append}
 use lib.Seq.{sets, length-sets, set-at, length-take-le, drop-cons, append-snoc, take-suc, take-all, sets-eq}
-use Rattle.packed.specs.Bytes.{Placed, hasRoom, packAt}
+use Rattle.packed.specs.Bytes.{Placed, fitsAt, packAt}
 
 module _ {ℓ} {A : Type ℓ} where
   -- an array z that takes the first elements of s
@@ -79,10 +79,10 @@ whole {n} {x} {s} p e =
 
 -- ## An answer: whether there was room, and the bytes after it
 
-pub no-room : (at n : ℕ) (x s : List ℕ) → length s < at + n → (false ≡ hasRoom at n s) × (s ≡ packAt at n x s)
+pub no-room : (at n : ℕ) (x s : List ℕ) → length s < at + n → (false ≡ fitsAt at n s) × (s ≡ packAt at n x s)
 unfolding packAt
 no-room at n x s h = (sym (lt-leb _ _ h), rw (lt-leb _ _ h))
 
-pub room : {at n : ℕ} {x s s′ : List ℕ} → at + n ≤ length s → Placed at n x s s′ → (true ≡ hasRoom at n s) × (s′ ≡ packAt at n x s)
+pub room : {at n : ℕ} {x s s′ : List ℕ} → at + n ≤ length s → Placed at n x s s′ → (true ≡ fitsAt at n s) × (s′ ≡ packAt at n x s)
 unfolding packAt
 room h p = (sym (le-leb _ _ h), p .is ∙ rw (le-leb _ _ h))

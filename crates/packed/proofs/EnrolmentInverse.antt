@@ -12,15 +12,15 @@ use Rattle.protocol.specs.declared.Enrolment.{Enrolment}
 use Rattle.protocol.specs.declared.EnrolmentState.{EnrolmentState}
 use Rattle.protocol.specs.declared.EnrolmentState.the-variants.{Asked, Confirming, Declining, Sure, Declined, Failed, Unsettled}
 use Rattle.packed.specs.declared.enrolment.UnpackedEnrolment.{UnpackedEnrolment}
-use Rattle.packed.specs.Enrolment.{stateNumber, stateOf, enrolmentBytes, packEnrolment, enrolmentOf, unpackEnrolment, Sized}
+use Rattle.packed.specs.Enrolment.{enrolmentStateNumber, enrolmentStateOf, enrolmentBytes, packEnrolment, enrolmentOf, unpackEnrolment, EnrolmentSized}
 use Rattle.packed.proofs.Tests.{both}
 use Rattle.packed.proofs.Parts.{part-length, join, one}
 use Rattle.packed.proofs.FieldLaws.{Laid, field-at, byte-at}
 
 -- ## A state
 
-of-number : (x : EnrolmentState) → stateOf (stateNumber x) ≡ x
-unfolding stateOf
+of-number : (x : EnrolmentState) → enrolmentStateOf (enrolmentStateNumber x) ≡ x
+unfolding enrolmentStateOf
 of-number Asked = refl
 of-number Confirming = refl
 of-number Declining = refl
@@ -29,7 +29,7 @@ of-number Declined = refl
 of-number Failed = refl
 of-number Unsettled = refl
 
-below : (x : EnrolmentState) → stateNumber x < 7
+below : (x : EnrolmentState) → enrolmentStateNumber x < 7
 below Asked = omega arith
 below Confirming = omega arith
 below Declining = omega arith
@@ -38,8 +38,8 @@ below Declined = omega arith
 below Failed = omega arith
 below Unsettled = omega arith
 
-number-of : (n : ℕ) → n < 7 → stateNumber (stateOf n) ≡ n
-unfolding stateOf
+number-of : (n : ℕ) → n < 7 → enrolmentStateNumber (enrolmentStateOf n) ≡ n
+unfolding enrolmentStateOf
 number-of zero h = refl
 number-of (suc zero) h = refl
 number-of (suc (suc zero)) h = refl
@@ -54,14 +54,14 @@ number-of (suc (suc (suc (suc (suc (suc (suc n))))))) h = absurd (omega arith)
 abbrev layout : List ℕ
 layout = 16 ∷ 1 ∷ 16 ∷ 16 ∷ 32 ∷ 1 ∷ []
 
-module _ (x : Enrolment) (z : Sized x) where
+module _ (x : Enrolment) (z : EnrolmentSized x) where
   abbrev fields : List (List ℕ)
-  fields = x .id .bytes ∷ (x .kind ∷ []) ∷ x .last .bytes ∷ x .taken .bytes ∷ x .hash .bytes ∷ (stateNumber (x .state) ∷ []) ∷ []
+  fields = x .id .bytes ∷ (x .kind ∷ []) ∷ x .last .bytes ∷ x .taken .bytes ∷ x .hash .bytes ∷ (enrolmentStateNumber (x .state) ∷ []) ∷ []
 
   laid : Laid layout fields
   laid = (z .id, (refl, (z .last, (z .taken, (z .hash, (refl, tt))))))
 
-  state-at : getD (packEnrolment x) 81 0 ≡ stateNumber (x .state)
+  state-at : getD (packEnrolment x) 81 0 ≡ enrolmentStateNumber (x .state)
   unfolding packEnrolment
   state-at = byte-at layout fields laid [] 5 0 (omega arith)
 
@@ -110,7 +110,7 @@ pack-unpacked s ok =
 
 -- ## What is unpacked has its sizes
 
-pub enrolment-sized : (s : List ℕ) → unpackEnrolment s .ok ≡ true → Sized (unpackEnrolment s .enrolment)
+pub enrolment-sized : (s : List ℕ) → unpackEnrolment s .ok ≡ true → EnrolmentSized (unpackEnrolment s .enrolment)
 unfolding unpackEnrolment enrolmentOf
 enrolment-sized s ok =
     let tests : (eqb (length s) enrolmentBytes ≡ true) × (ltb (getD s 81 0) 7 ≡ true) = both (λ (u : UnpackedEnrolment). u .ok) _ _ refl (eqb (length s) enrolmentBytes) (ltb (getD s 81 0) 7) ok in

@@ -16,7 +16,7 @@ use Rattle.protocol.specs.declared.TransactionTable.{TransactionTable}
 use Rattle.protocol.specs.Table.{capacity}
 use Rattle.packed.specs.declared.table.UnpackedTable.{UnpackedTable}
 use Rattle.packed.specs.Bytes.{twoBytes, AllBytes}
-use Rattle.packed.specs.Table.{stateNumber, stateOf, transactionBytes, packTransaction, transactionOf, tableBytes, packRows, rowsOf, statesGood, packTable, unpackTable, Sized, AllSized, TableSized}
+use Rattle.packed.specs.Table.{transactionStateNumber, transactionStateOf, transactionBytes, packTransaction, transactionOf, tableBytes, packRows, rowsOf, statesGood, packTable, unpackTable, TransactionSized, AllSized, TableSized}
 use Rattle.packed.proofs.Tests.{both}
 use Rattle.packed.proofs.Parts.{bytes-drop, part-length, join, one, two}
 use Rattle.packed.proofs.Rows.{length-rows}
@@ -24,8 +24,8 @@ use Rattle.packed.proofs.FieldLaws.{joined, Laid, field-at, byte-at}
 
 -- ## A state
 
-of-number : (x : TransactionState) → stateOf (stateNumber x) ≡ x
-unfolding stateOf
+of-number : (x : TransactionState) → transactionStateOf (transactionStateNumber x) ≡ x
+unfolding transactionStateOf
 of-number Free = refl
 of-number Asked = refl
 of-number Granted = refl
@@ -34,7 +34,7 @@ of-number Declined = refl
 of-number Refused = refl
 of-number Lapsed = refl
 
-below : (x : TransactionState) → stateNumber x < 7
+below : (x : TransactionState) → transactionStateNumber x < 7
 below Free = omega arith
 below Asked = omega arith
 below Granted = omega arith
@@ -43,8 +43,8 @@ below Declined = omega arith
 below Refused = omega arith
 below Lapsed = omega arith
 
-number-of : (n : ℕ) → n < 7 → stateNumber (stateOf n) ≡ n
-unfolding stateOf
+number-of : (n : ℕ) → n < 7 → transactionStateNumber (transactionStateOf n) ≡ n
+unfolding transactionStateOf
 number-of zero h = refl
 number-of (suc zero) h = refl
 number-of (suc (suc zero)) h = refl
@@ -59,9 +59,9 @@ number-of (suc (suc (suc (suc (suc (suc (suc n))))))) h = absurd (omega arith)
 abbrev layout : List ℕ
 layout = 16 ∷ 2 ∷ 1 ∷ 16 ∷ 16 ∷ 32 ∷ 1 ∷ []
 
-module _ (t : Transaction) (z : Sized t) (rest : List ℕ) where
+module _ (t : Transaction) (z : TransactionSized t) (rest : List ℕ) where
   abbrev fields : List (List ℕ)
-  fields = t .id .bytes ∷ twoBytes (t .board .0) ∷ (t .kind ∷ []) ∷ t .taken .bytes ∷ t .sent .bytes ∷ t .hash .bytes ∷ (stateNumber (t .state) ∷ []) ∷ []
+  fields = t .id .bytes ∷ twoBytes (t .board .0) ∷ (t .kind ∷ []) ∷ t .taken .bytes ∷ t .sent .bytes ∷ t .hash .bytes ∷ (transactionStateNumber (t .state) ∷ []) ∷ []
 
   laid : Laid layout fields
   laid = (z .id, (refl, (refl, (z .taken, (z .sent, (z .hash, (refl, tt)))))))
@@ -70,7 +70,7 @@ module _ (t : Transaction) (z : Sized t) (rest : List ℕ) where
   unfolding packTransaction
   all-is = simp append-assoc
 
-  state-at : getD (joined fields rest) 83 0 ≡ stateNumber (t .state)
+  state-at : getD (joined fields rest) 83 0 ≡ transactionStateNumber (t .state)
   state-at = byte-at layout fields laid rest 6 0 (omega arith)
 
   transaction-back : transactionOf (packTransaction t ++ rest) ≡ t
@@ -90,7 +90,7 @@ module _ (t : Transaction) (z : Sized t) (rest : List ℕ) where
         of-number (t .state),
       )
 
-pub packed-length : (t : Transaction) → Sized t → length (packTransaction t) ≡ transactionBytes
+pub packed-length : (t : Transaction) → TransactionSized t → length (packTransaction t) ≡ transactionBytes
 unfolding packTransaction
 packed-length t z = simp length-append (omega (arith, z .id, z .taken, z .sent, z .hash))
 

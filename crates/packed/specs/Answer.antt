@@ -5,7 +5,7 @@ use mathlib.Core.Bool.{cond}
 use mathlib.Core.Path.{_≡_}
 use lib.ListN.{drop, getD}
 use lib.Dec.{eqb, ltb}
-use Rattle.message.specs.declared.Fault.{Fault}
+use Rattle.message.specs.declared.ReadFault.{ReadFault}
 use Rattle.protocol.specs.declared.Outcome.{Outcome}
 use Rattle.protocol.specs.declared.Outcome.the-variants.{Done, Again, Refused}
 use Rattle.protocol.specs.declared.RegistrarAnswer.{RegistrarAnswer}
@@ -39,7 +39,7 @@ packOutcome o = (outcomeNumber o ∷ []) ++ ((refusalNumber o ∷ []) ++ (refusa
 
 -- ## The reader's fault
 
-unfoldable pub packFault : Fault → List ℕ
+unfoldable pub packFault : ReadFault → List ℕ
 packFault f = (f .number ∷ []) ++ (eightBytes (f .at .0) ++ (f .rule ∷ []))
 
 -- ## The answers
@@ -74,14 +74,14 @@ packEndEntityAnswer a =
 unfoldable pub outcomeOf : List ℕ → Outcome
 outcomeOf b = cond (eqb (getD b 0 0) 0) Done (cond (eqb (getD b 0 0) 1) Again (Refused (getD b 1 0) (failureOf (getD b 2 0))))
 
-abbrev pub faultOf : List ℕ → Fault
-faultOf b = record { number = getD b 3 0; at = record { 0 = eightAt 4 b }; rule = getD b 12 0 }
+abbrev pub readFaultOf : List ℕ → ReadFault
+readFaultOf b = record { number = getD b 3 0; at = record { 0 = eightAt 4 b }; rule = getD b 12 0 }
 
 unfoldable pub registrarAnswerOf : (b s : List ℕ) → RegistrarAnswer
 registrarAnswerOf b s =
     record {
       outcome = outcomeOf b;
-      fault = faultOf b;
+      fault = readFaultOf b;
       slot = record { 0 = getD b 13 0 };
       sends = flagAt 14 b;
       outgoing = outgoingOf (drop 15 b);
@@ -92,7 +92,7 @@ unfoldable pub endEntityAnswerOf : (b s : List ℕ) → EndEntityAnswer
 endEntityAnswerOf b s =
     record {
       outcome = outcomeOf b;
-      fault = faultOf b;
+      fault = readFaultOf b;
       sends = flagAt 13 b;
       outgoing = outgoingOf (drop 14 b);
       enrolment = unpackEnrolment s .enrolment;

@@ -21,12 +21,12 @@ pub record Placed (at n : ℕ) (x s s′ : List ℕ) : Type 0 where
   pub size : length x ≡ n
 
 -- there is room for n bytes at an offset
-abbrev pub hasRoom : (at n : ℕ) → List ℕ → Bool
-hasRoom at n s = leb (at + n) (length s)
+abbrev pub fitsAt : (at n : ℕ) → List ℕ → Bool
+fitsAt at n s = leb (at + n) (length s)
 
 -- x, of n bytes, put into s; bytes that have no room for it stay as they are
 unfoldable pub packAt : (at n : ℕ) (x s : List ℕ) → List ℕ
-packAt at n x s = cond (hasRoom at n s) (putAt at x s) s
+packAt at n x s = cond (fitsAt at n s) (putAt at x s) s
 
 -- a 16-bit number, and where it is read
 abbrev pub twoBytes : ℕ → List ℕ

@@ -14,18 +14,18 @@ use Rattle.packed.specs.Bytes.{part}
 
 -- ## A state
 
-abbrev pub stateNumber : EnrolmentState → ℕ
-stateNumber Asked = 0
-stateNumber Confirming = 1
-stateNumber Declining = 2
-stateNumber Sure = 3
-stateNumber Declined = 4
-stateNumber Failed = 5
-stateNumber Unsettled = 6
+abbrev pub enrolmentStateNumber : EnrolmentState → ℕ
+enrolmentStateNumber Asked = 0
+enrolmentStateNumber Confirming = 1
+enrolmentStateNumber Declining = 2
+enrolmentStateNumber Sure = 3
+enrolmentStateNumber Declined = 4
+enrolmentStateNumber Failed = 5
+enrolmentStateNumber Unsettled = 6
 
 -- of a number below 7
-unfoldable pub stateOf : ℕ → EnrolmentState
-stateOf n =
+unfoldable pub enrolmentStateOf : ℕ → EnrolmentState
+enrolmentStateOf n =
     cond (eqb n 0) Asked (
     cond (eqb n 1) Confirming (
     cond (eqb n 2) Declining (
@@ -45,7 +45,7 @@ packEnrolment x =
     x .last .bytes ++ (
     x .taken .bytes ++ (
     x .hash .bytes ++ (
-    stateNumber (x .state) ∷ [])))))
+    enrolmentStateNumber (x .state) ∷ [])))))
 
 unfoldable pub enrolmentOf : List ℕ → Enrolment
 enrolmentOf s =
@@ -55,7 +55,7 @@ enrolmentOf s =
       last = record { bytes = part 17 16 s };
       taken = record { bytes = part 33 16 s };
       hash = record { bytes = part 49 32 s };
-      state = stateOf (getD s 81 0);
+      state = enrolmentStateOf (getD s 81 0);
     }
 
 -- ## The two calls
@@ -72,7 +72,7 @@ unfoldable pub packEnrolmentIn : Enrolment → List ℕ → List ℕ
 packEnrolmentIn x s = cond (eqb (length s) enrolmentBytes) (packEnrolment x) s
 
 -- for the theorems: the arrays have their lengths. Numbers need no bound there
-pub record Sized (x : Enrolment) : Type 0 where
+pub record EnrolmentSized (x : Enrolment) : Type 0 where
   pub id : length (x .id .bytes) ≡ 16
   pub last : length (x .last .bytes) ≡ 16
   pub taken : length (x .taken .bytes) ≡ 16

@@ -15,18 +15,18 @@ use Rattle.packed.specs.Bytes.{part, twoAt, twoBytes}
 
 -- ## A state
 
-abbrev pub stateNumber : TransactionState → ℕ
-stateNumber Free = 0
-stateNumber Asked = 1
-stateNumber Granted = 2
-stateNumber Confirmed = 3
-stateNumber Declined = 4
-stateNumber Refused = 5
-stateNumber Lapsed = 6
+abbrev pub transactionStateNumber : TransactionState → ℕ
+transactionStateNumber Free = 0
+transactionStateNumber Asked = 1
+transactionStateNumber Granted = 2
+transactionStateNumber Confirmed = 3
+transactionStateNumber Declined = 4
+transactionStateNumber Refused = 5
+transactionStateNumber Lapsed = 6
 
 -- of a number below 7
-unfoldable pub stateOf : ℕ → TransactionState
-stateOf n =
+unfoldable pub transactionStateOf : ℕ → TransactionState
+transactionStateOf n =
     cond (eqb n 0) Free (
     cond (eqb n 1) Asked (
     cond (eqb n 2) Granted (
@@ -47,7 +47,7 @@ packTransaction t =
     t .taken .bytes ++ (
     t .sent .bytes ++ (
     t .hash .bytes ++ (
-    stateNumber (t .state) ∷ []))))))
+    transactionStateNumber (t .state) ∷ []))))))
 
 -- from the first bytes of a string
 unfoldable pub transactionOf : List ℕ → Transaction
@@ -59,7 +59,7 @@ transactionOf s =
       taken = record { bytes = part 19 16 s };
       sent = record { bytes = part 35 16 s };
       hash = record { bytes = part 51 32 s };
-      state = stateOf (getD s 83 0);
+      state = transactionStateOf (getD s 83 0);
     }
 
 -- ## The table
@@ -101,7 +101,7 @@ packTableIn t s = cond (eqb (length s) tableBytes) (packTable t) s
 
 -- ## For the theorems: the arrays have their lengths. Numbers need no bound there
 
-pub record Sized (t : Transaction) : Type 0 where
+pub record TransactionSized (t : Transaction) : Type 0 where
   pub id : length (t .id .bytes) ≡ 16
   pub taken : length (t .taken .bytes) ≡ 16
   pub sent : length (t .sent .bytes) ≡ 16
@@ -109,7 +109,7 @@ pub record Sized (t : Transaction) : Type 0 where
 
 abbrev pub AllSized : List Transaction → Type 0
 AllSized [] = Unit {0}
-AllSized (t ∷ ts) = Sized t × AllSized ts
+AllSized (t ∷ ts) = TransactionSized t × AllSized ts
 
 pub record TableSized (t : TransactionTable) : Type 0 where
   pub slots : length (t .transactions) ≡ capacity

@@ -5,7 +5,7 @@ use crate::bytes::put_flag;
 use crate::outgoing::OUTGOING_BYTES;
 use crate::outgoing::failure_number;
 use crate::outgoing::put_outgoing;
-use message::Fault;
+use message::ReadFault;
 use protocol::EndEntityAnswer;
 use protocol::Outcome;
 use protocol::RegistrarAnswer;
@@ -13,7 +13,7 @@ use protocol::Slot;
 ghost use mathlib.Core.Path.{_≡_};
 ghost use Prim.Native.Nat.{_≤_};
 ghost use lib.ListN.{length};
-ghost use Rattle.packed.specs.Bytes.{Placed, hasRoom, packAt};
+ghost use Rattle.packed.specs.Bytes.{Placed, fitsAt, packAt};
 ghost use Rattle.packed.specs.Answer.{outcomeNumber, refusalNumber, refusalBit, packOutcome, packFault, slotByte, registrarAnswerBytes, packRegistrarAnswer, endEntityAnswerBytes, packEndEntityAnswer};
 
 pub const REGISTRAR_ANSWER_BYTES: usize = 15 + OUTGOING_BYTES;
@@ -59,7 +59,7 @@ fn put_outcome(bytes: &mut [u8], o: Outcome)
     put_1(bytes, 2, refusal_bit(o));
 }
 
-fn put_fault(bytes: &mut [u8], f: Fault)
+fn put_fault(bytes: &mut [u8], f: ReadFault)
     requires { ⌜ 13 ≤ length (now bytes) ⌝ }
     ensures { λ _. ⌜ Placed 3 10 (packFault f) (now (bytes .entry)) (now (bytes .exit)) ⌝ }
 {
@@ -77,7 +77,7 @@ fn slot_byte(s: Slot) -> u8
 
 // The answer as the first bytes. False, with nothing changed, where there is no room for it.
 pub fn pack_registrar_answer(bytes: &mut [u8], a: RegistrarAnswer) -> bool
-    ensures { λ r. ⌜ (r ≡ hasRoom 0 registrarAnswerBytes (now (bytes .entry))) × (now (bytes .exit) ≡ packAt 0 registrarAnswerBytes (packRegistrarAnswer a) (now (bytes .entry))) ⌝ }
+    ensures { λ r. ⌜ (r ≡ fitsAt 0 registrarAnswerBytes (now (bytes .entry))) × (now (bytes .exit) ≡ packAt 0 registrarAnswerBytes (packRegistrarAnswer a) (now (bytes .entry))) ⌝ }
 {
     if bytes.len() < REGISTRAR_ANSWER_BYTES {
         return false;
@@ -93,7 +93,7 @@ pub fn pack_registrar_answer(bytes: &mut [u8], a: RegistrarAnswer) -> bool
 
 // The answer as the first bytes. False, with nothing changed, where there is no room for it.
 pub fn pack_end_entity_answer(bytes: &mut [u8], a: EndEntityAnswer) -> bool
-    ensures { λ r. ⌜ (r ≡ hasRoom 0 endEntityAnswerBytes (now (bytes .entry))) × (now (bytes .exit) ≡ packAt 0 endEntityAnswerBytes (packEndEntityAnswer a) (now (bytes .entry))) ⌝ }
+    ensures { λ r. ⌜ (r ≡ fitsAt 0 endEntityAnswerBytes (now (bytes .entry))) × (now (bytes .exit) ≡ packAt 0 endEntityAnswerBytes (packEndEntityAnswer a) (now (bytes .entry))) ⌝ }
 {
     if bytes.len() < END_ENTITY_ANSWER_BYTES {
         return false;

@@ -14,7 +14,7 @@ ghost use Prim.Native.Nat.{_≤_};
 ghost use lib.Dec.{eqb};
 ghost use lib.ListN.{length};
 ghost use Rattle.packed.specs.Bytes.{Placed};
-ghost use Rattle.packed.specs.Enrolment.{stateNumber, stateOf, enrolmentBytes, packEnrolment, enrolmentOf, noneUnpacked, unpackEnrolment, packEnrolmentIn};
+ghost use Rattle.packed.specs.Enrolment.{enrolmentStateNumber, enrolmentStateOf, enrolmentBytes, packEnrolment, enrolmentOf, noneUnpacked, unpackEnrolment, packEnrolmentIn};
 
 pub const ENROLMENT_BYTES: usize = 82;
 
@@ -25,7 +25,7 @@ pub struct UnpackedEnrolment {
 }
 
 fn state_number(s: EnrolmentState) -> u8
-    ensures { λ r. ⌜ r ≡ stateNumber s ⌝ }
+    ensures { λ r. ⌜ r ≡ enrolmentStateNumber s ⌝ }
 {
     match s {
         EnrolmentState::Asked => 0,
@@ -39,7 +39,7 @@ fn state_number(s: EnrolmentState) -> u8
 }
 
 fn state_of(n: u8) -> EnrolmentState
-    ensures { λ r. ⌜ r ≡ stateOf n ⌝ }
+    ensures { λ r. ⌜ r ≡ enrolmentStateOf n ⌝ }
 {
     match n {
         0 => EnrolmentState::Asked,

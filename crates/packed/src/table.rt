@@ -19,7 +19,7 @@ ghost use lib.Dec.{eqb};
 ghost use lib.ListN.{length, drop};
 ghost use Rattle.protocol.specs.Table.{capacity};
 ghost use Rattle.packed.specs.Bytes.{Placed};
-ghost use Rattle.packed.specs.Table.{stateNumber, stateOf, transactionBytes, packTransaction, transactionOf, tableBytes, packRows, statesGood, tableOf, noTable, unpackTable, packTableIn};
+ghost use Rattle.packed.specs.Table.{transactionStateNumber, transactionStateOf, transactionBytes, packTransaction, transactionOf, tableBytes, packRows, statesGood, tableOf, noTable, unpackTable, packTableIn};
 
 pub const TRANSACTION_BYTES: usize = 84;
 
@@ -32,7 +32,7 @@ pub struct UnpackedTable {
 }
 
 fn state_number(s: TransactionState) -> u8
-    ensures { λ r. ⌜ r ≡ stateNumber s ⌝ }
+    ensures { λ r. ⌜ r ≡ transactionStateNumber s ⌝ }
 {
     match s {
         TransactionState::Free => 0,
@@ -46,7 +46,7 @@ fn state_number(s: TransactionState) -> u8
 }
 
 fn state_of(n: u8) -> TransactionState
-    ensures { λ r. ⌜ r ≡ stateOf n ⌝ }
+    ensures { λ r. ⌜ r ≡ transactionStateOf n ⌝ }
 {
     match n {
         0 => TransactionState::Free,

@@ -18,10 +18,10 @@ use Rattle.der.proofs.Auto.{and-left, and-right}
 use Rattle.der.proofs.HeadLaws.{cond-both, cond-case, whole-in}
 use Rattle.grammar.specs.declared.Span.{Span}
 use Rattle.grammar.proofs.CursorLaws.{untrue}
-use Rattle.paths.specs.Walk.{Node, Step, Path, withHead, rowUpTo, row, first, tagged, seek, alone, choose, into, onward, either, walk}
+use Rattle.paths.specs.Walk.{Node, Step, Path, withHead, elementsUpTo, elementsBetween, first, tagged, seek, alone, choose, into, onward, either, walk}
 use Rattle.paths.specs.Walk.Step.{any, item, option, only}
 use Rattle.paths.specs.Walk.Path.{message, _▸_, _or_}
-use Rattle.paths.specs.Table.{Part, Place, placeOf, pathIn, spanFrom, wholeAt, contentAt, spanAt}
+use Rattle.paths.specs.Table.{Part, Place, placeOf, pathIn, spanFrom, wholeAt, contentSpan, spanAt}
 use Rattle.paths.specs.Table.Place.{whole, content}
 use Rattle.paths.specs.InPlace.{bytesOf, OneElement, OneIfThere}
 use Rattle.paths.proofs.Heads.{cut}
@@ -70,16 +70,16 @@ module _ (m : List ℕ) where
         head = rw (x, y, z) one;
       }
 
-  every-row : (e n a : ℕ) → Every a (rowUpTo m e n a)
-  unfolding rowUpTo
+  every-row : (e n a : ℕ) → Every a (elementsUpTo m e n a)
+  unfolding elementsUpTo
   every-row e zero a = tt
   every-row e (suc n) a = go (headOf (take (e - a) (drop a m))) refl (every-row e n)
     where
-      go : (o : Head) → headOf (take (e - a) (drop a m)) ≡ o → ((b : ℕ) → Every b (rowUpTo m e n b)) → Every a (withHead (rowUpTo m e n) a o)
+      go : (o : Head) → headOf (take (e - a) (drop a m)) ≡ o → ((b : ℕ) → Every b (elementsUpTo m e n b)) → Every a (withHead (elementsUpTo m e n) a o)
       go (Bad rule) q f = tt
       go (Whole t start len) q f =
           let b : ℕ = a + start + len in
-          (head-stands e a q, every-lower a b (omega arith) (rowUpTo m e n b) (f b))
+          (head-stands e a q, every-lower a b (omega arith) (elementsUpTo m e n b) (f b))
 
   module _ (a : ℕ) where
     every-drop : (k : ℕ) (ns : List Node) → Every a ns → Every a (drop k ns)
@@ -120,15 +120,15 @@ module _ (m : List ℕ) where
 
   -- what an element holds begins after it
   onward-stands : (s : Step) (o : Option Node) → Maybe 0 o → Maybe 1 (onward (into m s) o)
-  unfolding row
+  unfolding elementsBetween
   onward-stands s none w = tt
   onward-stands s (some n) w =
       maybe-lower 1 (n .from) (omega (arith, w .from)) (into m s n)
-      (of-step (n .from) s (row m (n .from) (n .to)) (every-row (n .to) (n .to - n .from) (n .from)))
+      (of-step (n .from) s (elementsBetween m (n .from) (n .to)) (every-row (n .to) (n .to - n .from) (n .from)))
 
   walk-stands : (p : Path) → Maybe 0 (walk m p)
-  unfolding walk row
-  walk-stands message = of-alone 0 0x30 (row m 0 (length m)) (every-row (length m) (length m - 0) 0)
+  unfolding walk elementsBetween
+  walk-stands message = of-alone 0 0x30 (elementsBetween m 0 (length m)) (every-row (length m) (length m - 0) 0)
   walk-stands (p ▸ s) = maybe-lower 0 1 (omega arith) (onward (into m s) (walk m p)) (onward-stands s (walk m p) (walk-stands p))
   walk-stands (p or q) = of-either 0 (walk m p) (walk m q) (walk-stands p) (walk-stands q)
 
@@ -158,7 +158,7 @@ whole-tells : (m : List ℕ) (o : Option Node) → Maybe m 1 o → Tells (wholeA
 whole-tells m none w = ((λ e. refl, λ e. refl), λ e. refl)
 whole-tells m (some n) w = ((λ z. absurd (omega (arith, w .low)), λ e. absurd (some-none e)), λ z. absurd (omega (arith, w .low)))
 
-content-tells : (m : List ℕ) (o : Option Node) → Maybe m 1 o → Tells (contentAt o) o
+content-tells : (m : List ℕ) (o : Option Node) → Maybe m 1 o → Tells (contentSpan o) o
 content-tells m none w = ((λ e. refl, λ e. refl), λ e. refl)
 content-tells m (some n) w = ((λ z. absurd (omega (arith, w .low, w .from)), λ e. absurd (some-none e)), λ z. absurd (omega (arith, w .low, w .from)))
 
@@ -232,7 +232,7 @@ step-tag t (only u) ns e = subst (λ (j : ℕ). Tagged j (alone u ns)) (eqb-true
 
 onward-tag : (m : List ℕ) (t : ℕ) (s : Step) (o : Option Node) → asks t s ≡ true → Tagged t (onward (into m s) o)
 onward-tag m t s none e = tt
-onward-tag m t s (some n) e = step-tag t s (row m (n .from) (n .to)) e
+onward-tag m t s (some n) e = step-tag t s (elementsBetween m (n .from) (n .to)) e
 
 either-tag : (t : ℕ) (o p : Option Node) → Tagged t o → Tagged t p → Tagged t (either o p)
 either-tag t none p w v = v
@@ -240,7 +240,7 @@ either-tag t (some n) p w v = w
 
 walk-tag : (m : List ℕ) (t : ℕ) (p : Path) → endsIn t p ≡ true → Tagged t (walk m p)
 unfolding walk
-walk-tag m t message e = subst (λ (j : ℕ). Tagged j (alone 0x30 (row m 0 (length m)))) (eqb-true 0x30 t e) (alone-tag 0x30 (row m 0 (length m)))
+walk-tag m t message e = subst (λ (j : ℕ). Tagged j (alone 0x30 (elementsBetween m 0 (length m)))) (eqb-true 0x30 t e) (alone-tag 0x30 (elementsBetween m 0 (length m)))
 walk-tag m t (p ▸ s) e = onward-tag m t s (walk m p) e
 walk-tag m t (p or q) e =
     either-tag t (walk m p) (walk m q)

@@ -4,23 +4,23 @@ use mathlib.Core.Path.{_≡_}
 use mathlib.Core.List.{List, [], _∷_, _++_}
 use mathlib.Core.Bool.{false}
 use lib.ListN.{length, replicate}
-use Rattle.paths.specs.Walk.{first, row, walk}
+use Rattle.paths.specs.Walk.{first, elementsBetween, walk}
 use Rattle.paths.specs.Table.{Part, Number, placeOf, pathOf, statusInfo, entryList, spanAt, numberAt, found, sizeAt}
 
 -- ## W
 
-abbrev header : List ℕ
-header =
+abbrev exampleHeader : List ℕ
+exampleHeader =
     0x30 ∷ 0x56 ∷ 0x02 ∷ 0x01 ∷ 0x02 ∷ 0xA4 ∷ 0x02 ∷ 0x30 ∷ 0x00 ∷ 0xA4 ∷ 0x02 ∷ 0x30 ∷ 0x00
     ∷ 0xA1 ∷ 0x0D ∷ 0x30 ∷ 0x0B ∷ 0x06 ∷ 0x09 ∷ 0x2A ∷ 0x86 ∷ 0x48 ∷ 0x86 ∷ 0xF6 ∷ 0x7D ∷ 0x07 ∷ 0x42 ∷ 0x0D
     ∷ 0xA4 ∷ 0x12 ∷ 0x04 ∷ 0x10
     ∷ (replicate 16 0x11 ++ (0xA5 ∷ 0x12 ∷ 0x04 ∷ 0x10 ∷ (replicate 16 0x22 ++ (0xA6 ∷ 0x12 ∷ 0x04 ∷ 0x10 ∷ replicate 16 0x33))))
 
-abbrev body : List ℕ
-body = 0xB8 ∷ 0x29 ∷ 0x30 ∷ 0x27 ∷ 0x30 ∷ 0x25 ∷ 0x04 ∷ 0x20 ∷ (replicate 32 0xAB ++ (0x02 ∷ 0x01 ∷ 0x00 ∷ []))
+abbrev exampleBody : List ℕ
+exampleBody = 0xB8 ∷ 0x29 ∷ 0x30 ∷ 0x27 ∷ 0x30 ∷ 0x25 ∷ 0x04 ∷ 0x20 ∷ (replicate 32 0xAB ++ (0x02 ∷ 0x01 ∷ 0x00 ∷ []))
 
 unfoldable pub w : List ℕ
-w = 0x30 ∷ 0x81 ∷ 0x89 ∷ (header ++ (body ++ (0xA0 ∷ 0x04 ∷ 0x03 ∷ 0x02 ∷ 0x00 ∷ 0x5A ∷ [])))
+w = 0x30 ∷ 0x81 ∷ 0x89 ∷ (exampleHeader ++ (exampleBody ++ (0xA0 ∷ 0x04 ∷ 0x03 ∷ 0x02 ∷ 0x00 ∷ 0x5A ∷ [])))
 
 -- start and length
 abbrev pub Lies : Part → ℕ → ℕ → Type 0
@@ -62,7 +62,7 @@ pub record OnW : Type 0 where
 
 -- the number that the INTEGER at the beginning says
 abbrev pub numberIn : List ℕ → ℕ
-numberIn s = numberAt s (first (row s 0 (length s)))
+numberIn s = numberAt s (first (elementsBetween s 0 (length s)))
 
 -- -1, as 32 bits of two's complement, and 128
 pub record TwoIntegers : Type 0 where

@@ -29,11 +29,11 @@ pub record InPlace (m : List ℕ) (x : Message) : Type 0 where
   pub numbers : (n : Number) → told x n ≡ numberAt m (walk m (pathOf n))
   pub small : (n : Number) → lengthAt (walk m (pathOf n)) ≤ 4
   -- there is a status exactly where there is a PKIStatusInfo
-  pub hasStatus : x .contents .entry .«has_status» ≡ found (walk m statusInfo)
+  pub hasStatus : x .body .entry .«has_status» ≡ found (walk m statusInfo)
   -- the entries are the components of what holds them
-  pub entries : x .contents .entries ≡ sizeAt m (walk m entryList)
+  pub entries : x .body .entries ≡ sizeAt m (walk m entryList)
   -- the kind is the number of the body's tag
-  pub kind : tagOf (walk m (message ▸ any 1)) ≡ context (x .contents .kind)
+  pub kind : tagOf (walk m (message ▸ any 1)) ≡ context (x .body .kind)
   -- protection and extraCerts are handed back with their tags: where there is one, it holds a BIT STRING, a SEQUENCE, and no other
   -- element
   pub bits : found (walk m (message ▸ option 2 (context 0) ▸ only BIT-STRING)) ≡ found (walk m (message ▸ option 2 (context 0)))
@@ -79,22 +79,22 @@ pub record WholeElements (m : List ℕ) (x : Message) : Type 0 where
   -- the message itself: nothing stands before it or after it
   pub message : OneElement SEQUENCE m
   -- what every message has
-  pub header : OneElement SEQUENCE (bytesOf m (x .header))
-  pub body : OneElement (context (x .contents .kind)) (bytesOf m (x .body))
-  pub sender : OneName (bytesOf m (x .fields .sender))
-  pub recipient : OneName (bytesOf m (x .fields .recipient))
+  pub header : OneElement SEQUENCE (bytesOf m (x .«header_span»))
+  pub body : OneElement (context (x .body .kind)) (bytesOf m (x .«body_span»))
+  pub sender : OneName (bytesOf m (x .header .sender))
+  pub recipient : OneName (bytesOf m (x .header .recipient))
   -- what it may have
   pub protection : OneIfThere (context 0) m (x .protection)
   pub extraCerts : OneIfThere (context 1) m (x .«extra_certs»)
-  pub protectionAlg : OneIfThere SEQUENCE m (x .fields .«protection_alg»)
-  pub freeText : OneIfThere SEQUENCE m (x .fields .«free_text»)
-  pub generalInfo : OneIfThere SEQUENCE m (x .fields .«general_info»)
-  pub caPubs : OneIfThere SEQUENCE m (x .contents .«ca_pubs»)
-  pub hashAlg : OneIfThere SEQUENCE m (x .contents .entry .«hash_alg»)
-  pub certificate : OneIfThere SEQUENCE m (x .contents .entry .certificate)
+  pub protectionAlg : OneIfThere SEQUENCE m (x .header .«protection_alg»)
+  pub freeText : OneIfThere SEQUENCE m (x .header .«free_text»)
+  pub generalInfo : OneIfThere SEQUENCE m (x .header .«general_info»)
+  pub caPubs : OneIfThere SEQUENCE m (x .body .«ca_pubs»)
+  pub hashAlg : OneIfThere SEQUENCE m (x .body .entry .«hash_alg»)
+  pub certificate : OneIfThere SEQUENCE m (x .body .entry .certificate)
   -- the request: a CertReqMsg, or in a p10cr (4), which always has it, an element with any tag
-  pub request : x .contents .kind ≢ 4 → OneIfThere SEQUENCE m (x .contents .entry .request)
-  pub p10cr : x .contents .kind ≡ 4 → (tag : ℕ) × OneElement tag (bytesOf m (x .contents .entry .request))
+  pub request : x .body .kind ≢ 4 → OneIfThere SEQUENCE m (x .body .entry .request)
+  pub p10cr : x .body .kind ≡ 4 → (tag : ℕ) × OneElement tag (bytesOf m (x .body .entry .request))
 
 -- THE THEOREM: `all-whole` in proofs/Theorem.antt
 abbrev pub AllWhole : Type 0

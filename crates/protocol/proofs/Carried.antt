@@ -32,21 +32,21 @@ module _ (bytes : List ℕ) (m : Message) (o : Outgoing) (c : Carries bytes m o)
 
   pub id-read : f .id ≡ some (o .id .bytes)
   unfolding fieldsOf
-  id-read = part-there bytes (m .fields .«transaction_id») (o .id .bytes) (c .id)
+  id-read = part-there bytes (m .header .«transaction_id») (o .id .bytes) (c .id)
 
   pub sender-read : f .senderNonce ≡ some (o .«sender_nonce» .bytes)
   unfolding fieldsOf
-  sender-read = part-there bytes (m .fields .«sender_nonce») (o .«sender_nonce» .bytes) (c .senderNonce)
+  sender-read = part-there bytes (m .header .«sender_nonce») (o .«sender_nonce» .bytes) (c .senderNonce)
 
   recip-by : (n : Nonce) → f .recipNonce ≡ some (n .bytes) → (b : Bool) → o .«has_recip_nonce» ≡ b → o .«recip_nonce» ≡ n
   unfolding fieldsOf
-  recip-by n e true h = nonce-of (o .«recip_nonce») n (some-some (sym (part-there bytes (m .fields .«recip_nonce») (o .«recip_nonce» .bytes) (c .recipNonce h)) ∙ e))
-  recip-by n e false h = none-some (sym (part-absent bytes (m .fields .«recip_nonce») (c .noRecipNonce h)) ∙ e)
+  recip-by n e true h = nonce-of (o .«recip_nonce») n (some-some (sym (part-there bytes (m .header .«recip_nonce») (o .«recip_nonce» .bytes) (c .recipNonce h)) ∙ e))
+  recip-by n e false h = none-some (sym (part-absent bytes (m .header .«recip_nonce») (c .noRecipNonce h)) ∙ e)
 
   pub recip-read : (n : Nonce) → f .recipNonce ≡ some (n .bytes) → o .«recip_nonce» ≡ n
   recip-read n e = recip-by n e (o .«has_recip_nonce») refl
 
-  status-by : ((m .contents .entry .«has_status» ≡ true) × (m .contents .entry .status ≡ o .status)) ⊎ ((m .contents .kind ≡ 24) × (m .contents .entry .«has_status» ≡ false) × (o .status ≡ 0)) → o .status ≡ statusOr0 (f .status)
+  status-by : ((m .body .entry .«has_status» ≡ true) × (m .body .entry .status ≡ o .status)) ⊎ ((m .body .kind ≡ 24) × (m .body .entry .«has_status» ≡ false) × (o .status ≡ 0)) → o .status ≡ statusOr0 (f .status)
   unfolding fieldsOf
   status-by (inl g) = rw (g .0) (sym (g .1))
   status-by (inr g) = rw (g .1) (g .2)

@@ -27,7 +27,7 @@ use Rattle.protocol.specs.Bytes.{asId}
 use Rattle.protocol.specs.Message.{isPresent, partOf, optionalPart, Fields, fieldsOf, statusOr0, optionalStatus, isEnrolmentKind}
 use Rattle.protocol.specs.Table.{lookup}
 use Rattle.protocol.specs.States.{settledBy, isGranted}
-use Rattle.protocol.specs.Refusals.{notSixteen, Check, check, pass, stop}
+use Rattle.protocol.specs.Refusals.{notSixteen, LowestRow, lowestRow, pass, stop}
 use Rattle.protocol.specs.RegistrarRows.{names, registrarRows}
 use Rattle.protocol.specs.Registrar.{registrarFields, registrarChecked, registrarMessage, registrarRead, confirmed}
 use Rattle.protocol.specs.Confirmation.{Sixteen, Matches, LeadsTo, Repeating, Moving}
@@ -73,7 +73,7 @@ module _ (t : TransactionTable) (d : RegistrarInput) (bytes : List ℕ) (m : Mes
   abbrev rs : List Transaction
   rs = t .transactions
 
-  pub fields-at : (g : Option Transaction) → lookup rs (asId (f .id)) ≡ g → (c : Check) → check (registrarRows rs g (d .verdict) f) ≡ c → registrarFields t d f ≡ registrarChecked c g t d f
+  pub fields-at : (g : Option Transaction) → lookup rs (asId (f .id)) ≡ g → (c : LowestRow) → lowestRow (registrarRows rs g (d .verdict) f) ≡ c → registrarFields t d f ≡ registrarChecked c g t d f
   unfolding registrarFields
   fields-at g h c e = rw (h, e)
 
@@ -84,55 +84,55 @@ module _ (t : TransactionTable) (d : RegistrarInput) (bytes : List ℕ) (m : Mes
   -- ## Only if
 
   status-known :
-      (b : Bool) → m .contents .entry .«has_status» ≡ b → b ≡ true →
-      (statusOr0 (optionalStatus b (m .contents .entry .status)) ≡ 0) ⊎ (statusOr0 (optionalStatus b (m .contents .entry .status)) ≡ 2) →
-      (m .contents .entry .status ≡ 0) ⊎ (m .contents .entry .status ≡ 2)
+      (b : Bool) → m .body .entry .«has_status» ≡ b → b ≡ true →
+      (statusOr0 (optionalStatus b (m .body .entry .status)) ≡ 0) ⊎ (statusOr0 (optionalStatus b (m .body .entry .status)) ≡ 2) →
+      (m .body .entry .status ≡ 0) ⊎ (m .body .entry .status ≡ 2)
   status-known true h e k = k
   status-known false h e k = true-false (sym e)
 
-  matches : readingOf bytes ≡ read.Clean m → (r : Transaction) → lookup rs (asId (f .id)) ≡ some r → check (registrarRows rs (some r) (d .verdict) f) ≡ pass → Matches t d bytes m r
+  matches : readingOf bytes ≡ read.Clean m → (r : Transaction) → lookup rs (asId (f .id)) ≡ some r → lowestRow (registrarRows rs (some r) (d .verdict) f) ≡ pass → Matches t d bytes m r
   unfolding fieldsOf
   matches reads r h e =
-      let p : (isPresent (m .protection) && isPresent (m .fields .«protection_alg»)) ≡ true = protected-it rs r (d .verdict) f e in
-      let i : Sixteen bytes (m .fields .«transaction_id») (partOf bytes (m .fields .«transaction_id»)) = sixteen bytes (m .fields .«transaction_id») (id-it rs r (d .verdict) f e) in
-      let n : Sixteen bytes (m .fields .«sender_nonce») (partOf bytes (m .fields .«sender_nonce»)) = sixteen bytes (m .fields .«sender_nonce») (sender-it rs r (d .verdict) f e) in
-      let a : (m .fields .«recip_nonce» .start .0 ≡ 0 → ⊥) × (partOf bytes (m .fields .«recip_nonce») ≡ r .sent .bytes) = part-of bytes (m .fields .«recip_nonce») (r .sent .bytes) (isPresent (m .fields .«recip_nonce»)) refl (recip-it rs r (d .verdict) f e) in
+      let p : (isPresent (m .protection) && isPresent (m .header .«protection_alg»)) ≡ true = protected-it rs r (d .verdict) f e in
+      let i : Sixteen bytes (m .header .«transaction_id») (partOf bytes (m .header .«transaction_id»)) = sixteen bytes (m .header .«transaction_id») (id-it rs r (d .verdict) f e) in
+      let n : Sixteen bytes (m .header .«sender_nonce») (partOf bytes (m .header .«sender_nonce»)) = sixteen bytes (m .header .«sender_nonce») (sender-it rs r (d .verdict) f e) in
+      let a : (m .header .«recip_nonce» .start .0 ≡ 0 → ⊥) × (partOf bytes (m .header .«recip_nonce») ≡ r .sent .bytes) = part-of bytes (m .header .«recip_nonce») (r .sent .bytes) (isPresent (m .header .«recip_nonce»)) refl (recip-it rs r (d .verdict) f e) in
       record {
         reads = reads;
         kind = kind-is rs r (d .verdict) f e;
         entries = eqb-eq (f .entries) 1 (one-it rs r (d .verdict) f e);
-        protection = present-part (m .protection) (and-left (isPresent (m .protection)) (isPresent (m .fields .«protection_alg»)) p);
-        algorithm = present-part (m .fields .«protection_alg») (and-right (isPresent (m .protection)) (isPresent (m .fields .«protection_alg»)) p);
+        protection = present-part (m .protection) (and-left (isPresent (m .protection)) (isPresent (m .header .«protection_alg»)) p);
+        algorithm = present-part (m .header .«protection_alg») (and-right (isPresent (m .protection)) (isPresent (m .header .«protection_alg»)) p);
         good = names-good (d .verdict) (r .board) (names-it rs r (d .verdict) f e);
         version = version-it rs r (d .verdict) f e;
-        hashAlg = λ q. alg-it rs r (d .verdict) f e (part-present (m .contents .entry .«hash_alg») q);
-        id = record { bytes = partOf bytes (m .fields .«transaction_id») };
+        hashAlg = λ q. alg-it rs r (d .verdict) f e (part-present (m .body .entry .«hash_alg») q);
+        id = record { bytes = partOf bytes (m .header .«transaction_id») };
         hasId = i;
-        holds = ap (λ (x : Option (List ℕ)). lookup rs (asId x)) (sym (part-there bytes (m .fields .«transaction_id») _ (i .0, refl))) ∙ h;
-        nonce = record { bytes = partOf bytes (m .fields .«sender_nonce») };
+        holds = ap (λ (x : Option (List ℕ)). lookup rs (asId x)) (sym (part-there bytes (m .header .«transaction_id») _ (i .0, refl))) ∙ h;
+        nonce = record { bytes = partOf bytes (m .header .«sender_nonce») };
         senderNonce = n;
         recipPresent = a .0;
         recipNonce = a .1;
         request = request-it rs r (d .verdict) f e;
         hash = ap (λ (x : Hash). x .bytes) (hash-it rs r (d .verdict) f e);
-        status = λ q. status-known (m .contents .entry .«has_status») refl q (known-it rs r (d .verdict) f e);
+        status = λ q. status-known (m .body .entry .«has_status») refl q (known-it rs r (d .verdict) f e);
       }
 
-  leads-by : (b : Bool) → m .contents .entry .«has_status» ≡ b → (s : TransactionState) → settledBy s (statusOr0 (optionalStatus b (m .contents .entry .status))) ≡ true → (s ≡ at-registrar.Confirmed) ⊎ (s ≡ at-registrar.Declined) → LeadsTo m s
-  leads-by true h s e (inl c) = inl (c, inr (eqb-eq (m .contents .entry .status) 0 (ap (λ (z : TransactionState). settledBy z (m .contents .entry .status)) (sym c) ∙ e)))
-  leads-by true h s e (inr c) = inr (c, h, eqb-eq (m .contents .entry .status) 2 (ap (λ (z : TransactionState). settledBy z (m .contents .entry .status)) (sym c) ∙ e))
+  leads-by : (b : Bool) → m .body .entry .«has_status» ≡ b → (s : TransactionState) → settledBy s (statusOr0 (optionalStatus b (m .body .entry .status))) ≡ true → (s ≡ at-registrar.Confirmed) ⊎ (s ≡ at-registrar.Declined) → LeadsTo m s
+  leads-by true h s e (inl c) = inl (c, inr (eqb-eq (m .body .entry .status) 0 (ap (λ (z : TransactionState). settledBy z (m .body .entry .status)) (sym c) ∙ e)))
+  leads-by true h s e (inr c) = inr (c, h, eqb-eq (m .body .entry .status) 2 (ap (λ (z : TransactionState). settledBy z (m .body .entry .status)) (sym c) ∙ e))
   leads-by false h s e (inl c) = inl (c, inl h)
   leads-by false h s e (inr c) = true-false (sym e ∙ ap (λ (z : TransactionState). settledBy z 0) c)
 
-  repeating : readingOf bytes ≡ read.Clean m → (r : Transaction) → lookup rs (asId (f .id)) ≡ some r → check (registrarRows rs (some r) (d .verdict) f) ≡ pass → isGranted (r .state) ≡ false → Repeating t d bytes m r
+  repeating : readingOf bytes ≡ read.Clean m → (r : Transaction) → lookup rs (asId (f .id)) ≡ some r → lowestRow (registrarRows rs (some r) (d .verdict) f) ≡ pass → isGranted (r .state) ≡ false → Repeating t d bytes m r
   unfolding fieldsOf matches
   repeating reads r h e g =
-      let n : Sixteen bytes (m .fields .«sender_nonce») (partOf bytes (m .fields .«sender_nonce»)) = sixteen bytes (m .fields .«sender_nonce») (sender-it rs r (d .verdict) f e) in
-      let p : partOf bytes (m .fields .«sender_nonce») ≡ r .taken .bytes = some-some (sym (part-there bytes (m .fields .«sender_nonce») _ (n .0, refl)) ∙ same-nonce-it rs r (d .verdict) f e g) in
+      let n : Sixteen bytes (m .header .«sender_nonce») (partOf bytes (m .header .«sender_nonce»)) = sixteen bytes (m .header .«sender_nonce») (sender-it rs r (d .verdict) f e) in
+      let p : partOf bytes (m .header .«sender_nonce») ≡ r .taken .bytes = some-some (sym (part-there bytes (m .header .«sender_nonce») _ (n .0, refl)) ∙ same-nonce-it rs r (d .verdict) f e g) in
       record {
         match = matches reads r h e;
         nonce = λ i. record { bytes = p i };
-        state = leads-by (m .contents .entry .«has_status») refl (r .state) (takes-it rs r (d .verdict) f e g) (settled-one (r .state) _ (takes-it rs r (d .verdict) f e g));
+        state = leads-by (m .body .entry .«has_status») refl (r .state) (takes-it rs r (d .verdict) f e g) (settled-one (r .state) _ (takes-it rs r (d .verdict) f e g));
       }
 
   -- how a confirmation that passes the rows ends
@@ -141,7 +141,7 @@ module _ (t : TransactionTable) (d : RegistrarInput) (bytes : List ℕ) (m : Mes
   Ends r outcome.Again = Repeating t d bytes m r
   Ends r (outcome.Refused n b) = ⊥
 
-  passed-at : readingOf bytes ≡ read.Clean m → (r : Transaction) → lookup rs (asId (f .id)) ≡ some r → check (registrarRows rs (some r) (d .verdict) f) ≡ pass → (b : Bool) → isGranted (r .state) ≡ b → Ends r ((confirmed t r (d .nonce) f) .outcome)
+  passed-at : readingOf bytes ≡ read.Clean m → (r : Transaction) → lookup rs (asId (f .id)) ≡ some r → lowestRow (registrarRows rs (some r) (d .verdict) f) ≡ pass → (b : Bool) → isGranted (r .state) ≡ b → Ends r ((confirmed t r (d .nonce) f) .outcome)
   unfolding Ends
   passed-at reads r h e true g = rw g (record { match = matches reads r h e; granted = is-granted (r .state) g })
   passed-at reads r h e false g = rw g (repeating reads r h e g)
@@ -158,15 +158,15 @@ module _ (t : TransactionTable) (d : RegistrarInput) (bytes : List ℕ) (m : Mes
   some-end r outcome.Again e = (r, e)
   some-end r (outcome.Refused n b) e = tt
 
-  ends-by : readingOf bytes ≡ read.Clean m → f .kind ≡ 24 → (g : Option Transaction) → lookup rs (asId (f .id)) ≡ g → (c : Check) → check (registrarRows rs g (d .verdict) f) ≡ c → EndsWith ((registrarChecked c g t d f) .outcome)
+  ends-by : readingOf bytes ≡ read.Clean m → f .kind ≡ 24 → (g : Option Transaction) → lookup rs (asId (f .id)) ≡ g → (c : LowestRow) → lowestRow (registrarRows rs g (d .verdict) f) ≡ c → EndsWith ((registrarChecked c g t d f) .outcome)
   unfolding registrarChecked EndsWith
   ends-by reads k g h (stop n) e = tt
   ends-by reads k none h pass e = true-false (sym (opens-it rs (d .verdict) f e) ∙ ap isEnrolmentKind k)
   ends-by reads k (some r) h pass e = some-end r _ (passed-at reads r h e (isGranted (r .state)) refl)
 
-  pub ends : readingOf bytes ≡ read.Clean m → m .contents .kind ≡ 24 → EndsWith (registrarMessage t d bytes .outcome)
+  pub ends : readingOf bytes ≡ read.Clean m → m .body .kind ≡ 24 → EndsWith (registrarMessage t d bytes .outcome)
   unfolding fieldsOf
   ends reads k =
       let g : Option Transaction = lookup rs (asId (f .id)) in
-      let c : Check = check (registrarRows rs g (d .verdict) f) in
+      let c : LowestRow = lowestRow (registrarRows rs g (d .verdict) f) in
       subst (λ (a : RegistrarAnswer). EndsWith (a .outcome)) (sym (message-at reads ∙ fields-at g refl c refl)) (ends-by reads k g refl c refl)

@@ -18,9 +18,9 @@ use Rattle.protocol.specs.declared.RegistrarAnswer.{RegistrarAnswer}
 use Rattle.protocol.specs.declared.Outcome.the-variants as outcome
 use Rattle.protocol.specs.Bytes.{asId, asNonce, present, isNonce, sameBytes, sameHash, sameNonce}
 use Rattle.protocol.specs.Message.{fieldsOf, Fields, isEnrolmentKind, isPresent, statusOr0, optionalStatus}
-use Rattle.protocol.specs.Table.{hasRoom, lookup}
+use Rattle.protocol.specs.Table.{hasFreeSlot, lookup}
 use Rattle.protocol.specs.States.{hasSent, hasHash, isGranted, settledState, settledBy}
-use Rattle.protocol.specs.Refusals.{otherVersion, noTransactionId, noSenderNonce, unprotected, pass, check}
+use Rattle.protocol.specs.Refusals.{otherVersion, noTransactionId, noSenderNonce, unprotected, pass, lowestRow}
 use Rattle.protocol.specs.RegistrarRows.{repeats, confirms, opens, oneEntry, isGood, otherKind, confirmsForAnother, names, confirmsOtherNonce, notOneEntry, hasEntries, otherRequest, hashAlgTooEarly, otherStatus, otherHash, notTaken, registrarRows}
 use Rattle.protocol.specs.Registrar.{registrarMessage, confirmed, registrarChecked}
 use Rattle.protocol.specs.Promises.{RegistrarPromise, registrarNumbers}
@@ -34,11 +34,11 @@ use Rattle.protocol.proofs.ConfirmationMoves.{present-test, part-presen
 module _ (t : TransactionTable) (d : RegistrarInput) (bytes : List ℕ) (m : Message) (r : Transaction) (c : Matches t d bytes m r) where
   id-is : asId (fieldsOf bytes m .id) ≡ c .id
   unfolding fieldsOf
-  id-is = ap asId (part-there bytes (m .fields .«transaction_id») (c .id .bytes) (c .hasId .0, c .hasId .1))
+  id-is = ap asId (part-there bytes (m .header .«transaction_id») (c .id .bytes) (c .hasId .0, c .hasId .1))
 
   nonce-is : asNonce (fieldsOf bytes m .senderNonce) ≡ c .nonce
   unfolding fieldsOf
-  nonce-is = ap asNonce (part-there bytes (m .fields .«sender_nonce») (c .nonce .bytes) (c .senderNonce .0, c .senderNonce .1))
+  nonce-is = ap asNonce (part-there bytes (m .header .«sender_nonce») (c .nonce .bytes) (c .senderNonce .0, c .senderNonce .1))
 
 module _ (t : TransactionTable) (d : RegistrarInput) (bytes : List ℕ) (m : Message) (r : Transaction) (c : Matches t d bytes m r) (sent-it : hasSent (r .state) ≡ true) (hash-set : hasHash (r .state) ≡ true) (takes : (isGranted (r .state) || repeats r (fieldsOf bytes m)) ≡ true) where
   abbrev f : Fields
@@ -64,15 +64,15 @@ module _ (t : TransactionTable) (d : RegistrarInput) (bytes : List ℕ) (m : Mes
 
   row-4 : noTransactionId f ≡ false
   unfolding fieldsOf
-  row-4 = present-test bytes (m .fields .«transaction_id») (c .id .bytes) (c .hasId)
+  row-4 = present-test bytes (m .header .«transaction_id») (c .id .bytes) (c .hasId)
 
   row-5 : noSenderNonce f ≡ false
   unfolding fieldsOf
-  row-5 = present-test bytes (m .fields .«sender_nonce») (c .nonce .bytes) (c .senderNonce)
+  row-5 = present-test bytes (m .header .«sender_nonce») (c .nonce .bytes) (c .senderNonce)
 
   row-6 : unprotected f ≡ false
   unfolding fieldsOf
-  row-6 = holds-not (f .protected) (both (isPresent (m .protection)) (isPresent (m .fields .«protection_alg»)) (part-present (m .protection) (c .protection)) (part-present (m .fields .«protection_alg») (c .algorithm)))
+  row-6 = holds-not (f .protected) (both (isPresent (m .protection)) (isPresent (m .header .«protection_alg»)) (part-present (m .protection) (c .protection)) (part-present (m .header .«protection_alg») (c .algorithm)))
 
   row-7 : not (isGood (d .verdict)) ≡ false
   row-7 = rw (c .good)
@@ -85,7 +85,7 @@ module _ (t : TransactionTable) (d : RegistrarInput) (bytes : List ℕ) (m : Mes
 
   recip-it : isNonce (f .recipNonce) (r .sent) ≡ true
   unfolding fieldsOf
-  recip-it = ap (λ (x : Option (List ℕ)). isNonce x (r .sent)) (part-there bytes (m .fields .«recip_nonce») (r .sent .bytes) (c .recipPresent, c .recipNonce)) ∙ sameBytes-refl (r .sent .bytes)
+  recip-it = ap (λ (x : Option (List ℕ)). isNonce x (r .sent)) (part-there bytes (m .header .«recip_nonce») (r .sent .bytes) (c .recipPresent, c .recipNonce)) ∙ sameBytes-refl (r .sent .bytes)
 
   row-14 : confirmsOtherNonce r f ≡ false
   row-14 = off-right (confirms f) _ (holds-not (hasSent (r .state) && isNonce (f .recipNonce) (r .sent)) (both (hasSent (r .state)) (isNonce (f .recipNonce) (r .sent)) sent-it recip-it))
@@ -97,21 +97,21 @@ module _ (t : TransactionTable) (d : RegistrarInput) (bytes : List ℕ) (m : Mes
   unfolding fieldsOf
   row-16 = off-right (hasEntries f && oneEntry f) (not (eqb (f .request) 0)) (holds-not (eqb (f .request) 0) (same-number (f .request) 0 (c .request)))
 
-  alg-off : (b : Bool) → isPresent (m .contents .entry .«hash_alg») ≡ b → (confirms f && oneEntry f && b && eqb (m .fields .version) 2) ≡ false
-  alg-off true e = off-right (confirms f && oneEntry f && true) (eqb (m .fields .version) 2) (ap (λ (k : ℕ). eqb k 2) (c .hashAlg (present-part (m .contents .entry .«hash_alg») e)))
-  alg-off false e = off-left (confirms f && oneEntry f && false) (eqb (m .fields .version) 2) (off-right (confirms f && oneEntry f) false refl)
+  alg-off : (b : Bool) → isPresent (m .body .entry .«hash_alg») ≡ b → (confirms f && oneEntry f && b && eqb (m .header .version) 2) ≡ false
+  alg-off true e = off-right (confirms f && oneEntry f && true) (eqb (m .header .version) 2) (ap (λ (k : ℕ). eqb k 2) (c .hashAlg (present-part (m .body .entry .«hash_alg») e)))
+  alg-off false e = off-left (confirms f && oneEntry f && false) (eqb (m .header .version) 2) (off-right (confirms f && oneEntry f) false refl)
 
   row-17 : hashAlgTooEarly f ≡ false
   unfolding fieldsOf
-  row-17 = alg-off (isPresent (m .contents .entry .«hash_alg»)) refl
+  row-17 = alg-off (isPresent (m .body .entry .«hash_alg»)) refl
 
-  status-in : (b : Bool) → m .contents .entry .«has_status» ≡ b → (eqb (statusOr0 (optionalStatus b (m .contents .entry .status))) 0 || eqb (statusOr0 (optionalStatus b (m .contents .entry .status))) 2) ≡ true
-  status-in true e = either (m .contents .entry .status) 0 2 (c .status e)
+  status-in : (b : Bool) → m .body .entry .«has_status» ≡ b → (eqb (statusOr0 (optionalStatus b (m .body .entry .status))) 0 || eqb (statusOr0 (optionalStatus b (m .body .entry .status))) 2) ≡ true
+  status-in true e = either (m .body .entry .status) 0 2 (c .status e)
   status-in false e = refl
 
   row-18 : otherStatus f ≡ false
   unfolding fieldsOf
-  row-18 = off-right (confirms f && oneEntry f) _ (holds-not _ (status-in (m .contents .entry .«has_status») refl))
+  row-18 = off-right (confirms f && oneEntry f) _ (holds-not _ (status-in (m .body .entry .«has_status») refl))
 
   same-hash : sameHash (f .hash) (r .hash) ≡ true
   unfolding fieldsOf
@@ -123,11 +123,11 @@ module _ (t : TransactionTable) (d : RegistrarInput) (bytes : List ℕ) (m : Mes
   row-20 : notTaken r f ≡ false
   row-20 = off-right (confirms f) _ (holds-not (isGranted (r .state) || repeats r f) takes)
 
-  passes-all : check (registrarRows (t .transactions) (some r) (d .verdict) f) ≡ pass
+  passes-all : lowestRow (registrarRows (t .transactions) (some r) (d .verdict) f) ≡ pass
   unfolding registrarRows
   passes-all =
       check-is (skip row-3 (skip row-4 (skip row-5 (skip row-6 (skip row-7 (skip row-8
-      (skip (off-left (opens f) (present (f .recipNonce)) no-request) (skip (off-left (opens f) true no-request) (skip (off-left (opens f) (not (hasRoom (t .transactions))) no-request)
+      (skip (off-left (opens f) (present (f .recipNonce)) no-request) (skip (off-left (opens f) true no-request) (skip (off-left (opens f) (not (hasFreeSlot (t .transactions))) no-request)
       (skip (off-right (confirms f) false refl) (skip row-13 (skip row-14 (skip row-15 (skip row-16 (skip row-17 (skip row-18 (skip row-19 (skip row-20 through))))))))))))))))))
 
   pub passed : registrarMessage t d bytes ≡ confirmed t r (d .nonce) f
@@ -137,7 +137,7 @@ module _ (t : TransactionTable) (d : RegistrarInput) (bytes : List ℕ) (m : Mes
 -- ## The answers
 
 module _ (t : TransactionTable) (d : RegistrarInput) (bytes : List ℕ) (m : Message) (r : Transaction) where
-  state-by : (b : Bool) → m .contents .entry .«has_status» ≡ b → (s : TransactionState) → LeadsTo m s → settledState (statusOr0 (optionalStatus b (m .contents .entry .status))) ≡ s
+  state-by : (b : Bool) → m .body .entry .«has_status» ≡ b → (s : TransactionState) → LeadsTo m s → settledState (statusOr0 (optionalStatus b (m .body .entry .status))) ≡ s
   state-by true h s (inl (e, inl q)) = true-false (sym h ∙ q)
   state-by true h s (inl (e, inr q)) = rw (q, e)
   state-by true h s (inr g) = rw (g .2, g .0)
@@ -146,7 +146,7 @@ module _ (t : TransactionTable) (d : RegistrarInput) (bytes : List ℕ) (m : Mes
 
   state-is : (s : TransactionState) → LeadsTo m s → settledState (statusOr0 (fieldsOf bytes m .status)) ≡ s
   unfolding fieldsOf
-  state-is s q = state-by (m .contents .entry .«has_status») refl s q
+  state-is s q = state-by (m .body .entry .«has_status») refl s q
 
   pub moved : (c : Moving t d bytes m r) (s : TransactionState) → LeadsTo m s → registrarMessage t d bytes ≡ movedAnswer t d r (c .match .id) (c .match .nonce) s
   moved c s q =
@@ -159,7 +159,7 @@ module _ (t : TransactionTable) (d : RegistrarInput) (bytes : List ℕ) (m : Mes
   leads-sent s (inl g) = (rw (g .0), rw (g .0), rw (g .0))
   leads-sent s (inr g) = (rw (g .0), rw (g .0), rw (g .0))
 
-  leads-settled : (b : Bool) → m .contents .entry .«has_status» ≡ b → (s : TransactionState) → LeadsTo m s → settledBy s (statusOr0 (optionalStatus b (m .contents .entry .status))) ≡ true
+  leads-settled : (b : Bool) → m .body .entry .«has_status» ≡ b → (s : TransactionState) → LeadsTo m s → settledBy s (statusOr0 (optionalStatus b (m .body .entry .status))) ≡ true
   leads-settled true h s (inl (e, inl q)) = true-false (sym h ∙ q)
   leads-settled true h s (inl (e, inr q)) = rw (e, q)
   leads-settled true h s (inr g) = rw (g .0, g .2)
@@ -169,8 +169,8 @@ module _ (t : TransactionTable) (d : RegistrarInput) (bytes : List ℕ) (m : Mes
   repeats-it : (c : Repeating t d bytes m r) → repeats r (fieldsOf bytes m) ≡ true
   unfolding fieldsOf
   repeats-it c =
-      both (settledBy (r .state) (statusOr0 (fieldsOf bytes m .status))) (isNonce (fieldsOf bytes m .senderNonce) (r .taken)) (leads-settled (m .contents .entry .«has_status») refl (r .state) (c .state))
-      (ap (λ (x : Option (List ℕ)). isNonce x (r .taken)) (part-there bytes (m .fields .«sender_nonce») (c .match .nonce .bytes) (c .match .senderNonce .0, c .match .senderNonce .1))
+      both (settledBy (r .state) (statusOr0 (fieldsOf bytes m .status))) (isNonce (fieldsOf bytes m .senderNonce) (r .taken)) (leads-settled (m .body .entry .«has_status») refl (r .state) (c .state))
+      (ap (λ (x : Option (List ℕ)). isNonce x (r .taken)) (part-there bytes (m .header .«sender_nonce») (c .match .nonce .bytes) (c .match .senderNonce .0, c .match .senderNonce .1))
       ∙ ap (λ (n : Nonce). sameNonce n (r .taken)) (c .nonce)
       ∙ sameBytes-refl (r .taken .bytes))
 

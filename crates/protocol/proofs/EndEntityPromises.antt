@@ -6,7 +6,7 @@ use mathlib.Core.Path.{_≡_, refl, sym, subst}
 use mathlib.Core.Logic.{_⊎_, inl, inr}
 use native.Mathlib.Omega.{arith}
 use lib.Dec.{eqb}
-use Rattle.message.specs.declared.Fault.{Fault}
+use Rattle.message.specs.declared.ReadFault.{ReadFault}
 use Rattle.message.specs.Read.{readingOf}
 use Rattle.message.specs.declared.Reading.{Reading}
 use Rattle.message.specs.declared.Reading.the-variants as read
@@ -22,8 +22,8 @@ use Rattle.protocol.specs.declared.Outcome.the-variants as outcome
 use Rattle.protocol.specs.declared.EnrolmentState.the-variants.{Confirming, Declining, Sure, Declined, Failed, Unsettled}
 use Rattle.protocol.specs.Message.{Fields, pkiConf, errorKind, statusOr0, fieldsOf, isEnrolmentKind}
 use Rattle.protocol.specs.Outgoing.{silent, requestOut}
-use Rattle.protocol.specs.States.{isWaiting, isConfirming, broken, assured}
-use Rattle.protocol.specs.Refusals.{check, Row, stop, Check, pass, readRefusal, bitOf, noFault}
+use Rattle.protocol.specs.States.{isWaiting, isConfirming, brokenState, assured}
+use Rattle.protocol.specs.Refusals.{lowestRow, Row, stop, LowestRow, pass, readRefusal, bitOf, noFault}
 use Rattle.protocol.specs.EndEntityRows.{endEntityRows}
 use Rattle.protocol.specs.EndEntity.{enrolmentMoved, inState, endEntityTimeOut, enrolmentRefused, afterRefusal, endEntityChecked, endEntityRead, endEntityMessage, startedEnrolment, noEnrolment, endEntityStart}
 use Rattle.protocol.specs.Promises.{OneOf, EndEntityPromise, endEntityNumbers}
@@ -41,7 +41,7 @@ done-again : outcome.Done ≡ outcome.Again → ⊥
 done-again e = let z : _≡_ {A = ℕ} 0 1 = cc in omega arith
 
 module _ (x : Enrolment) where
-  refusing : (ns : List ℕ) (k : ℕ) (b : FailureInfo) (f : Fault) → OneOf k ns → EndEntityPromise ns x (record { outcome = outcome.Refused k b; fault = f; sends = false; outgoing = silent; enrolment = x })
+  refusing : (ns : List ℕ) (k : ℕ) (b : FailureInfo) (f : ReadFault) → OneOf k ns → EndEntityPromise ns x (record { outcome = outcome.Refused k b; fault = f; sends = false; outgoing = silent; enrolment = x })
   refusing ns k b f i =
       record {
         number = λ n c e. subst (λ (j : ℕ). OneOf j ns) (refused-number k n b c e) i;
@@ -68,14 +68,14 @@ module _ (x : Enrolment) where
 
   pub time-out-promise : EndEntityPromise (31 ∷ []) x (endEntityTimeOut x)
   unfolding endEntityTimeOut
-  time-out-promise = cases (EndEntityPromise (31 ∷ []) x) (isWaiting (x .state) || isConfirming (x .state)) _ _ (λ _. moving (31 ∷ []) (broken (x .state))) (λ _. refusing (31 ∷ []) 31 _ _ (inl refl))
+  time-out-promise = cases (EndEntityPromise (31 ∷ []) x) (isWaiting (x .state) || isConfirming (x .state)) _ _ (λ _. moving (31 ∷ []) (brokenState (x .state))) (λ _. refusing (31 ∷ []) 31 _ _ (inl refl))
 
   -- ## A message
 
   abbrev Kept : EndEntityAnswer → Type 0
   Kept = EndEntityPromise endEntityNumbers x
 
-  row-number : (good : Bool) (m : Fields) (k : ℕ) → check (endEntityRows x good m) ≡ stop k → OneOf k endEntityNumbers
+  row-number : (good : Bool) (m : Fields) (k : ℕ) → lowestRow (endEntityRows x good m) ≡ stop k → OneOf k endEntityNumbers
   unfolding endEntityRows
   row-number good m k e = let rows : List Row = endEntityRows x good m in one-in k (numbersOf rows) endEntityNumbers (applies-number k rows (stops rows k e)) refl
 
@@ -83,13 +83,13 @@ module _ (x : Enrolment) where
   unfolding afterRefusal
   refused-after k m i = refusing endEntityNumbers k _ _ i
 
-  checked-promise : (d : EndEntityInput) (m : Fields) (c : Check) → check (endEntityRows x (d .good) m) ≡ c → Kept (endEntityChecked c x d m)
+  checked-promise : (d : EndEntityInput) (m : Fields) (c : LowestRow) → lowestRow (endEntityRows x (d .good) m) ≡ c → Kept (endEntityChecked c x d m)
   unfolding endEntityChecked
   checked-promise d m (stop k) e = refused-after k m (row-number (d .good) m k e)
   checked-promise d m pass e =
       cases Kept (eqb (m .kind) pkiConf) _ _ (λ _. moving endEntityNumbers (assured (x .state)))
       (λ _.
-      cases Kept (eqb (m .kind) errorKind) _ _ (λ _. moving endEntityNumbers (broken (x .state)))
+      cases Kept (eqb (m .kind) errorKind) _ _ (λ _. moving endEntityNumbers (brokenState (x .state)))
       (λ _. cases Kept (eqb (statusOr0 (m .status)) 2) _ _ (λ _. moving endEntityNumbers Failed) (λ _. doing endEntityNumbers _ true _ refl refl (λ _. refl))))
 
   read-number : (b : Bool) → OneOf (cond b 1 2) endEntityNumbers
@@ -99,7 +99,7 @@ module _ (x : Enrolment) where
   read-promise : (d : EndEntityInput) (bytes : List ℕ) (r : Reading) → Kept (endEntityRead r x d bytes)
   unfolding endEntityRead
   read-promise d bytes (read.Refused f) = refusing endEntityNumbers (readRefusal f) _ _ (read-number (eqb (f .number) 1))
-  read-promise d bytes (read.Clean m) = checked-promise d (fieldsOf bytes m) (check (endEntityRows x (d .good) (fieldsOf bytes m))) refl
+  read-promise d bytes (read.Clean m) = checked-promise d (fieldsOf bytes m) (lowestRow (endEntityRows x (d .good) (fieldsOf bytes m))) refl
 
   pub message-promise : (d : EndEntityInput) (bytes : List ℕ) → Kept (endEntityMessage x d bytes)
   unfolding endEntityMessage

@@ -21,8 +21,8 @@ use Rattle.protocol.specs.declared.EnrolmentState.the-variants.{Failed}
 use Rattle.protocol.specs.Bytes.{asNonce}
 use Rattle.protocol.specs.Message.{isResponse, fieldsOf, Fields, pkiConf, responseTo, errorKind, statusOr0}
 use Rattle.protocol.specs.Outgoing.{certConfOut}
-use Rattle.protocol.specs.States.{broken, assured, isWaiting, decision, decided, isConfirming}
-use Rattle.protocol.specs.Refusals.{check, Row, pass, Check, stop, readRefusal}
+use Rattle.protocol.specs.States.{brokenState, assured, isWaiting, decision, decided, isConfirming}
+use Rattle.protocol.specs.Refusals.{lowestRow, Row, pass, LowestRow, stop, readRefusal}
 use Rattle.protocol.specs.EndEntityRows.{endEntityRows, acknowledges, reports, responds}
 use Rattle.protocol.specs.EndEntity.{enrolmentRefused, inState, enrolmentMoved, confirmedEnrolment, confirming, endEntityTimeOut, endEntityChecked, afterRefusal, endEntityRead, endEntityMessage}
 use Rattle.protocol.specs.Run.{Event, TheRegistrar, World, BoardEnrolment, sentBy, ToEndEntity}
@@ -78,13 +78,13 @@ module _ (w : World) (v : Inv w) (k : ℕ) (x : BoardEnrolment) (here : At (w .e
   answered-still : (t : EnrolmentState) → Answered (w .past) x → Answered (w .past) (into t)
   answered-still t c = record { message = c .message; issued = c .issued; kind = c .kind; id = c .id; recip = c .recip }
 
-  breaks : EnrolmentStep (enrolmentMoved (inState (x .enrolment) (broken (x .enrolment .state))))
+  breaks : EnrolmentStep (enrolmentMoved (inState (x .enrolment) (brokenState (x .enrolment .state))))
   breaks =
       moved
-      (broken (x .enrolment .state))
+      (brokenState (x .enrolment .state))
       (λ s. broken-stands (x .enrolment .state) s)
       (λ s. broken-confirmed (x .enrolment .state) s)
-      (λ e. answered-still (broken (x .enrolment .state)) (v .answered k x here (broken-answered (x .enrolment .state) e)))
+      (λ e. answered-still (brokenState (x .enrolment .state)) (v .answered k x here (broken-answered (x .enrolment .state) e)))
 
   assures : Answered (w .past) x → EnrolmentStep (enrolmentMoved (inState (x .enrolment) (assured (x .enrolment .state))))
   assures a =
@@ -140,7 +140,7 @@ module _ (w : World) (v : Inv w) (k : ℕ) (x : BoardEnrolment) (here : At (w .e
   response-to false true = refl
   response-to false false = refl
 
-  module _ (bytes : List ℕ) (m : Message) (d : EndEntityInput) (e : check (endEntityRows (x .enrolment) (d .good) (fieldsOf bytes m)) ≡ pass) where
+  module _ (bytes : List ℕ) (m : Message) (d : EndEntityInput) (e : lowestRow (endEntityRows (x .enrolment) (d .good) (fieldsOf bytes m)) ≡ pass) where
     abbrev f : Fields
     f = fieldsOf bytes m
 
@@ -201,7 +201,7 @@ module _ (w : World) (v : Inv w) (k : ℕ) (x : BoardEnrolment) (here : At (w .e
   unfolding afterRefusal
   refused-after n f = refused n
 
-  checked : (bytes : List ℕ) (m : Message) (d : EndEntityInput) → ByReading (d .good) bytes (read.Clean m) (w .past) → (c : Check) → check (endEntityRows (x .enrolment) (d .good) (fieldsOf bytes m)) ≡ c → EnrolmentStep (endEntityChecked c (x .enrolment) d (fieldsOf bytes m))
+  checked : (bytes : List ℕ) (m : Message) (d : EndEntityInput) → ByReading (d .good) bytes (read.Clean m) (w .past) → (c : LowestRow) → lowestRow (endEntityRows (x .enrolment) (d .good) (fieldsOf bytes m)) ≡ c → EnrolmentStep (endEntityChecked c (x .enrolment) d (fieldsOf bytes m))
   unfolding endEntityChecked
   checked bytes m d q (stop t) e = refused-after t (fieldsOf bytes m)
   checked bytes m d q pass e = passed bytes m d e q
@@ -209,7 +209,7 @@ module _ (w : World) (v : Inv w) (k : ℕ) (x : BoardEnrolment) (here : At (w .e
   read-step : (bytes : List ℕ) (d : EndEntityInput) (r : Reading) → ByReading (d .good) bytes r (w .past) → EnrolmentStep (endEntityRead r (x .enrolment) d bytes)
   unfolding endEntityRead
   read-step bytes d (read.Refused t) q = refused (readRefusal t)
-  read-step bytes d (read.Clean m) q = checked bytes m d q (check (endEntityRows (x .enrolment) (d .good) (fieldsOf bytes m))) refl
+  read-step bytes d (read.Clean m) q = checked bytes m d q (lowestRow (endEntityRows (x .enrolment) (d .good) (fieldsOf bytes m))) refl
 
   pub message-step : (bytes : List ℕ) (d : EndEntityInput) → SenderIssued (ToEndEntity k bytes d) (w .past) → EnrolmentStep (endEntityMessage (x .enrolment) d bytes)
   unfolding endEntityMessage

@@ -14,8 +14,8 @@ use Rattle.protocol.specs.declared.Enrolment.{Enrolment}
 use Rattle.protocol.specs.declared.EnrolmentState.the-variants.{Asked, Confirming, Declining, Failed, Unsettled}
 use Rattle.protocol.specs.Bytes.{isId, isNonce, asNonce}
 use Rattle.protocol.specs.Message.{Fields, fieldsOf, isPresent, statusOr0, optionalStatus, isResponse, responseTo}
-use Rattle.protocol.specs.States.{isConfirming, assured, isWaiting, broken}
-use Rattle.protocol.specs.Refusals.{otherVersion, noTransactionId, noSenderNonce, unprotected, pass, Check}
+use Rattle.protocol.specs.States.{isConfirming, assured, isWaiting, brokenState}
+use Rattle.protocol.specs.Refusals.{otherVersion, noTransactionId, noSenderNonce, unprotected, pass, LowestRow}
 use Rattle.protocol.specs.EndEntityRows.{otherId, otherNonce, otherAnswer, notOneResponse, otherNumber, badStatus, notAwaited, noCertificate, endEntityRows, responds, reports, oneResponse, acknowledges, hasStatus}
 use Rattle.protocol.specs.EndEntity.{endEntityMessage, endEntityChecked, confirming, responseTaken}
 use Rattle.protocol.specs.EnrolmentRules.{Heard, StatusIs, Acknowledges, becomes, Reports, Responds, EnrolmentRule}
@@ -37,23 +37,23 @@ module _ (x : Enrolment) (d : EndEntityInput) (bytes : List ℕ) (m : Message) (
 
   id-off : noTransactionId f ≡ false
   unfolding fieldsOf
-  id-off = present-test bytes (m .fields .«transaction_id») (x .id .bytes) (c .hasId)
+  id-off = present-test bytes (m .header .«transaction_id») (x .id .bytes) (c .hasId)
 
   nonce-off : noSenderNonce f ≡ false
   unfolding fieldsOf
-  nonce-off = present-test bytes (m .fields .«sender_nonce») (c .nonce .bytes) (c .senderNonce)
+  nonce-off = present-test bytes (m .header .«sender_nonce») (c .nonce .bytes) (c .senderNonce)
 
   protection-off : unprotected f ≡ false
   unfolding fieldsOf
-  protection-off = holds-not (f .protected) (both (isPresent (m .protection)) (isPresent (m .fields .«protection_alg»)) (part-present (m .protection) (c .protection)) (part-present (m .fields .«protection_alg») (c .algorithm)))
+  protection-off = holds-not (f .protected) (both (isPresent (m .protection)) (isPresent (m .header .«protection_alg»)) (part-present (m .protection) (c .protection)) (part-present (m .header .«protection_alg») (c .algorithm)))
 
   own-off : otherId x f ≡ false
   unfolding fieldsOf
-  own-off = holds-not (isId (f .id) (x .id)) (ap (λ (z : Option (List ℕ)). isId z (x .id)) (part-there bytes (m .fields .«transaction_id») (x .id .bytes) (c .hasId .0, c .hasId .1)) ∙ sameBytes-refl (x .id .bytes))
+  own-off = holds-not (isId (f .id) (x .id)) (ap (λ (z : Option (List ℕ)). isId z (x .id)) (part-there bytes (m .header .«transaction_id») (x .id .bytes) (c .hasId .0, c .hasId .1)) ∙ sameBytes-refl (x .id .bytes))
 
   last-off : otherNonce x f ≡ false
   unfolding fieldsOf
-  last-off = holds-not (isNonce (f .recipNonce) (x .last)) (ap (λ (z : Option (List ℕ)). isNonce z (x .last)) (part-there bytes (m .fields .«recip_nonce») (x .last .bytes) (c .recipPresent, c .recipNonce)) ∙ sameBytes-refl (x .last .bytes))
+  last-off = holds-not (isNonce (f .recipNonce) (x .last)) (ap (λ (z : Option (List ℕ)). isNonce z (x .last)) (part-there bytes (m .header .«recip_nonce») (x .last .bytes) (c .recipPresent, c .recipNonce)) ∙ sameBytes-refl (x .last .bytes))
 
   -- ## The others, and the answer
 
@@ -61,14 +61,14 @@ module _ (x : Enrolment) (d : EndEntityInput) (bytes : List ℕ) (m : Message) (
   unfolding endEntityRows
   passed r8 r15 r16 r18 r20 r21 =
       answer-at x d bytes m (c .reads)
-      ∙ ap (λ (k : Check). endEntityChecked k x d f)
+      ∙ ap (λ (k : LowestRow). endEntityChecked k x d f)
       (check-is (skip version-off (skip id-off (skip nonce-off (skip protection-off (skip (holds-not (d .good) (c .good)) (skip r8 (skip own-off (skip last-off (skip r15 (skip r16 (skip r18 (skip r20 (skip r21 through))))))))))))))
 
   nonce-is : asNonce (f .senderNonce) ≡ c .nonce
   unfolding fieldsOf
-  nonce-is = ap asNonce (part-there bytes (m .fields .«sender_nonce») (c .nonce .bytes) (c .senderNonce .0, c .senderNonce .1))
+  nonce-is = ap asNonce (part-there bytes (m .header .«sender_nonce») (c .nonce .bytes) (c .senderNonce .0, c .senderNonce .1))
 
-  status-at : (b : Bool) (s : ℕ) → m .contents .entry .«has_status» ≡ b → StatusIs m s → statusOr0 (optionalStatus b (m .contents .entry .status)) ≡ s
+  status-at : (b : Bool) (s : ℕ) → m .body .entry .«has_status» ≡ b → StatusIs m s → statusOr0 (optionalStatus b (m .body .entry .status)) ≡ s
   status-at true s h (inl g) = g .1
   status-at true s h (inr g) = true-false (sym h ∙ g .0)
   status-at false s h (inl g) = true-false (sym (g .0) ∙ h)
@@ -76,7 +76,7 @@ module _ (x : Enrolment) (d : EndEntityInput) (bytes : List ℕ) (m : Message) (
 
   status-is : (s : ℕ) → StatusIs m s → statusOr0 (f .status) ≡ s
   unfolding fieldsOf
-  status-is s g = status-at (m .contents .entry .«has_status») s refl g
+  status-is s g = status-at (m .body .entry .«has_status») s refl g
 
   or-off : (a b : Bool) → a ≡ false → b ≡ false → (a || b) ≡ false
   or-off a b p q = rw (p, q)
@@ -128,7 +128,7 @@ module _ (x : Enrolment) (d : EndEntityInput) (bytes : List ℕ) (m : Message) (
     between-it t (inr (inl e)) = rw e
     between-it t (inr (inr e)) = rw e
 
-    reported : endEntityMessage x d bytes ≡ becomes x (broken (x .state))
+    reported : endEntityMessage x d bytes ≡ becomes x (brokenState (x .state))
     unfolding endEntityChecked
     reported =
         passed
@@ -179,7 +179,7 @@ module _ (x : Enrolment) (d : EndEntityInput) (bytes : List ℕ) (m : Message) (
     certificate-off : Dec (s ≡ 2) → noCertificate f ≡ false
     unfolding fieldsOf
     certificate-off (yes e) = off-left (responds f && not (hasStatus 2 f)) _ (off-right (responds f) _ (holds-not (hasStatus 2 f) (same-number (statusOr0 (f .status)) 2 (status-is s (k .status) ∙ e))))
-    certificate-off (no z) = off-right (responds f && not (hasStatus 2 f)) _ (holds-not (f .certificate) (part-present (m .contents .entry .certificate) (k .certificate z)))
+    certificate-off (no z) = off-right (responds f && not (hasStatus 2 f)) _ (holds-not (f .certificate) (part-present (m .body .entry .certificate) (k .certificate z)))
 
     response-taken : endEntityMessage x d bytes ≡ responseTaken x d f
     unfolding endEntityChecked
@@ -205,13 +205,13 @@ enrolment-rule x d bytes m =
       takes = takes-only x d bytes m;
       sure = λ c k e. acknowledged x d bytes m c k ∙ ap (λ (t : EnrolmentState). becomes x (assured t)) e;
       declined = λ c k e. acknowledged x d bytes m c k ∙ ap (λ (t : EnrolmentState). becomes x (assured t)) e;
-      failed = λ c k e. reported x d bytes m c k ∙ ap (λ (t : EnrolmentState). becomes x (broken t)) e;
+      failed = λ c k e. reported x d bytes m c k ∙ ap (λ (t : EnrolmentState). becomes x (brokenState t)) e;
       unsettled = λ c k e. reported x d bytes m c k ∙ ap (becomes x) (broken-between (x .state) e);
       refused = λ c k. refused-it x d bytes m c k;
       accepted = λ c s k z a. decided-it x d bytes m c s k z ∙ ap (λ (b : Bool). confirming x b (d .hash) (d .nonce) (c .nonce)) a;
       rejected = λ c s k z a. decided-it x d bytes m c s k z ∙ ap (λ (b : Bool). confirming x b (d .hash) (d .nonce) (c .nonce)) a;
     }
   where
-    broken-between : (t : EnrolmentState) → (t ≡ Confirming) ⊎ (t ≡ Declining) → broken t ≡ Unsettled
+    broken-between : (t : EnrolmentState) → (t ≡ Confirming) ⊎ (t ≡ Declining) → brokenState t ≡ Unsettled
     broken-between t (inl e) = rw e
     broken-between t (inr e) = rw e

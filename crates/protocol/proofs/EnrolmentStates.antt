@@ -6,7 +6,7 @@ use mathlib.Core.Logic.{inl, inr}
 use lib.Dec.{eqb}
 use Rattle.protocol.specs.declared.EnrolmentState.{EnrolmentState}
 use Rattle.protocol.specs.declared.EnrolmentState.the-variants.{Asked, Confirming, Declining, Sure, Declined, Failed, Unsettled}
-use Rattle.protocol.specs.States.{broken, assured, isWaiting, decided, decision}
+use Rattle.protocol.specs.States.{brokenState, assured, isWaiting, decided, decision}
 use Rattle.protocol.specs.Agreement.{MayBeSure}
 use Rattle.protocol.proofs.Tests.{true-false, eqb-eq}
 
@@ -49,7 +49,7 @@ may-be-sure Declined e = true-false (sym e)
 may-be-sure Failed e = true-false (sym e)
 may-be-sure Unsettled e = inr (inr refl)
 
-pub broken-stands : (t : EnrolmentState) (s : ℕ) → standsFor t s ≡ true → standsFor (broken t) s ≡ true
+pub broken-stands : (t : EnrolmentState) (s : ℕ) → standsFor t s ≡ true → standsFor (brokenState t) s ≡ true
 broken-stands Asked s e = e
 broken-stands Confirming s e = refl
 broken-stands Declining s e = refl
@@ -58,7 +58,7 @@ broken-stands Declined s e = e
 broken-stands Failed s e = e
 broken-stands Unsettled s e = e
 
-pub broken-confirmed : (t : EnrolmentState) (s : ℕ) → hasConfirmed (broken t) s ≡ true → hasConfirmed t s ≡ true
+pub broken-confirmed : (t : EnrolmentState) (s : ℕ) → hasConfirmed (brokenState t) s ≡ true → hasConfirmed t s ≡ true
 broken-confirmed Asked s e = e
 broken-confirmed Confirming s e = true-false (sym e)
 broken-confirmed Declining s e = true-false (sym e)
@@ -67,7 +67,7 @@ broken-confirmed Declined s e = e
 broken-confirmed Failed s e = e
 broken-confirmed Unsettled s e = e
 
-pub broken-answered : (t : EnrolmentState) → isAnswered (broken t) ≡ true → isAnswered t ≡ true
+pub broken-answered : (t : EnrolmentState) → isAnswered (brokenState t) ≡ true → isAnswered t ≡ true
 broken-answered Asked e = e
 broken-answered Confirming e = e
 broken-answered Declining e = e

@@ -17,7 +17,7 @@ use Rattle.protocol.specs.declared.EnrolmentState.the-variants.{Asked, C
 use Rattle.protocol.specs.declared.Outcome.the-variants as outcome
 use Rattle.protocol.specs.Message.{isResponse, responseTo, Fields, fieldsOf, isPresent, partOf, statusOr0, optionalStatus}
 use Rattle.protocol.specs.States.{isWaiting, isConfirming}
-use Rattle.protocol.specs.Refusals.{Row, Check, check, pass, stop}
+use Rattle.protocol.specs.Refusals.{Row, LowestRow, lowestRow, pass, stop}
 use Rattle.protocol.specs.EndEntityRows.{endEntityRows, responds, acknowledges, reports, oneResponse, hasStatus}
 use Rattle.protocol.specs.EndEntity.{endEntityMessage, endEntityChecked, endEntityRead}
 use Rattle.protocol.specs.Confirmation.{Sixteen}
@@ -64,27 +64,27 @@ module _ (x : Enrolment) (d : EndEntityInput) (bytes : List ℕ) (m : Message) w
   abbrev rows : List Row
   rows = endEntityRows x (d .good) f
 
-  pub answer-at : readingOf bytes ≡ read.Clean m → endEntityMessage x d bytes ≡ endEntityChecked (check rows) x d f
+  pub answer-at : readingOf bytes ≡ read.Clean m → endEntityMessage x d bytes ≡ endEntityChecked (lowestRow rows) x d f
   unfolding endEntityMessage endEntityRead
   answer-at e = rw e
 
-  module _ (reads : readingOf bytes ≡ read.Clean m) (e : check rows ≡ pass) where
+  module _ (reads : readingOf bytes ≡ read.Clean m) (e : lowestRow rows ≡ pass) where
     heard : Heard x d bytes m
     unfolding fieldsOf endEntityRows
     heard =
-        let p : (isPresent (m .protection) && isPresent (m .fields .«protection_alg»)) ≡ true = not-false _ (passes 6 rows e) in
-        let i : Sixteen bytes (m .fields .«transaction_id») (partOf bytes (m .fields .«transaction_id»)) = sixteen bytes (m .fields .«transaction_id») (passes 4 rows e) in
-        let n : Sixteen bytes (m .fields .«sender_nonce») (partOf bytes (m .fields .«sender_nonce»)) = sixteen bytes (m .fields .«sender_nonce») (passes 5 rows e) in
-        let o : (m .fields .«transaction_id» .start .0 ≡ 0 → ⊥) × (partOf bytes (m .fields .«transaction_id») ≡ x .id .bytes) = part-of bytes (m .fields .«transaction_id») (x .id .bytes) (isPresent (m .fields .«transaction_id»)) refl (isId-eq (f .id) (x .id) (not-false _ (passes 12 rows e))) in
-        let a : (m .fields .«recip_nonce» .start .0 ≡ 0 → ⊥) × (partOf bytes (m .fields .«recip_nonce») ≡ x .last .bytes) = part-of bytes (m .fields .«recip_nonce») (x .last .bytes) (isPresent (m .fields .«recip_nonce»)) refl (isNonce-eq (f .recipNonce) (x .last) (not-false _ (passes 14 rows e))) in
+        let p : (isPresent (m .protection) && isPresent (m .header .«protection_alg»)) ≡ true = not-false _ (passes 6 rows e) in
+        let i : Sixteen bytes (m .header .«transaction_id») (partOf bytes (m .header .«transaction_id»)) = sixteen bytes (m .header .«transaction_id») (passes 4 rows e) in
+        let n : Sixteen bytes (m .header .«sender_nonce») (partOf bytes (m .header .«sender_nonce»)) = sixteen bytes (m .header .«sender_nonce») (passes 5 rows e) in
+        let o : (m .header .«transaction_id» .start .0 ≡ 0 → ⊥) × (partOf bytes (m .header .«transaction_id») ≡ x .id .bytes) = part-of bytes (m .header .«transaction_id») (x .id .bytes) (isPresent (m .header .«transaction_id»)) refl (isId-eq (f .id) (x .id) (not-false _ (passes 12 rows e))) in
+        let a : (m .header .«recip_nonce» .start .0 ≡ 0 → ⊥) × (partOf bytes (m .header .«recip_nonce») ≡ x .last .bytes) = part-of bytes (m .header .«recip_nonce») (x .last .bytes) (isPresent (m .header .«recip_nonce»)) refl (isNonce-eq (f .recipNonce) (x .last) (not-false _ (passes 14 rows e))) in
         record {
           reads = reads;
           version = one-of (f .version) 2 3 (not-false _ (passes 3 rows e));
           hasId = (i .0, o .1, ap length (sym (o .1)) ∙ i .2);
-          nonce = record { bytes = partOf bytes (m .fields .«sender_nonce») };
+          nonce = record { bytes = partOf bytes (m .header .«sender_nonce») };
           senderNonce = n;
-          protection = present-part (m .protection) (and-left (isPresent (m .protection)) (isPresent (m .fields .«protection_alg»)) p);
-          algorithm = present-part (m .fields .«protection_alg») (and-right (isPresent (m .protection)) (isPresent (m .fields .«protection_alg»)) p);
+          protection = present-part (m .protection) (and-left (isPresent (m .protection)) (isPresent (m .header .«protection_alg»)) p);
+          algorithm = present-part (m .header .«protection_alg») (and-right (isPresent (m .protection)) (isPresent (m .header .«protection_alg»)) p);
           good = not-false (d .good) (passes 7 rows e);
           recipPresent = a .0;
           recipNonce = a .1;
@@ -118,11 +118,11 @@ module _ (x : Enrolment) (d : EndEntityInput) (bytes : List ℕ) (m : Message) w
     unfolding fieldsOf
     acknowledged k =
         record {
-          kind = eqb-eq (m .contents .kind) 19 k;
+          kind = eqb-eq (m .body .kind) 19 k;
           state = is-confirming (x .state) (not-false (isConfirming (x .state)) (and-false (acknowledges f) (not (isConfirming (x .state))) (or-false-right A B (or-false-left (A || B) C row-20)) k));
         }
 
-    status-by : (b : Bool) (s : ℕ) → m .contents .entry .«has_status» ≡ b → statusOr0 (optionalStatus b (m .contents .entry .status)) ≡ s → StatusIs m s
+    status-by : (b : Bool) (s : ℕ) → m .body .entry .«has_status» ≡ b → statusOr0 (optionalStatus b (m .body .entry .status)) ≡ s → StatusIs m s
     status-by true s h q = inl (h, q)
     status-by false s h q = inr (h, sym q)
 
@@ -130,8 +130,8 @@ module _ (x : Enrolment) (d : EndEntityInput) (bytes : List ℕ) (m : Message) w
     unfolding fieldsOf
     reported k =
         record {
-          kind = eqb-eq (m .contents .kind) 23 k;
-          status = status-by (m .contents .entry .«has_status») 2 refl (eqb-eq _ 2 (not-false (hasStatus 2 f) (and-false (reports f) (not (hasStatus 2 f)) (or-false-right P Q row-18) k)));
+          kind = eqb-eq (m .body .kind) 23 k;
+          status = status-by (m .body .entry .«has_status») 2 refl (eqb-eq _ 2 (not-false (hasStatus 2 f) (and-false (reports f) (not (hasStatus 2 f)) (or-false-right P Q row-18) k)));
           state = awaited (x .state) (or-cases (isWaiting (x .state)) (isConfirming (x .state)) (not-false _ (and-false (reports f) (not (isWaiting (x .state) || isConfirming (x .state))) (or-false-right (A || B) C row-20) k)));
         }
 
@@ -158,10 +158,10 @@ module _ (x : Enrolment) (d : EndEntityInput) (bytes : List ℕ) (m : Message) w
           kind = c;
           entries = eqb-eq (f .entries) 1 one;
           request = eqb-eq (f .request) 0 (not-false _ (and-false (responds f && oneResponse f) (not (eqb (f .request) 0)) (passes 16 rows e) ro));
-          status = status-by (m .contents .entry .«has_status») _ refl refl;
+          status = status-by (m .body .entry .«has_status») _ refl refl;
           known = known-by _ (not-false _ (and-false (responds f && oneResponse f) (not (hasStatus 0 f || hasStatus 1 f || hasStatus 2 f)) (or-false-left P Q row-18) ro));
           state = is-waiting (x .state) (not-false (isWaiting (x .state)) (and-false (responds f) (not (isWaiting (x .state))) (or-false-left A B (or-false-left (A || B) C row-20)) r));
-          certificate = λ z. present-part (m .contents .entry .certificate) (not-false (f .certificate) (and-false (responds f && not (hasStatus 2 f)) (not (f .certificate)) (passes 21 rows e) (both (responds f) (not (hasStatus 2 f)) r (ap not (other-than (statusOr0 (f .status)) 2 z _ refl)))));
+          certificate = λ z. present-part (m .body .entry .certificate) (not-false (f .certificate) (and-false (responds f && not (hasStatus 2 f)) (not (f .certificate)) (passes 21 rows e) (both (responds f) (not (hasStatus 2 f)) r (ap not (other-than (statusOr0 (f .status)) 2 z _ refl)))));
         }
 
     kinds : (a b : Bool) → acknowledges f ≡ a → reports f ≡ b → Acknowledges x m ⊎ Reports x m ⊎ ((s : ℕ) × Responds x m s)
@@ -172,10 +172,10 @@ module _ (x : Enrolment) (d : EndEntityInput) (bytes : List ℕ) (m : Message) w
     pub taken : Heard x d bytes m × (Acknowledges x m ⊎ Reports x m ⊎ ((s : ℕ) × Responds x m s))
     taken = (heard, kinds (acknowledges f) (reports f) refl refl)
 
-  takes-by : readingOf bytes ≡ read.Clean m → (c : Check) → check rows ≡ c → endEntityChecked c x d f .outcome ≡ outcome.Done → Heard x d bytes m × (Acknowledges x m ⊎ Reports x m ⊎ ((s : ℕ) × Responds x m s))
+  takes-by : readingOf bytes ≡ read.Clean m → (c : LowestRow) → lowestRow rows ≡ c → endEntityChecked c x d f .outcome ≡ outcome.Done → Heard x d bytes m × (Acknowledges x m ⊎ Reports x m ⊎ ((s : ℕ) × Responds x m s))
   unfolding endEntityChecked
   takes-by reads (stop k) e q = done-refused k _ (sym q)
   takes-by reads pass e q = taken reads e
 
   pub takes-only : readingOf bytes ≡ read.Clean m → endEntityMessage x d bytes .outcome ≡ outcome.Done → Heard x d bytes m × (Acknowledges x m ⊎ Reports x m ⊎ ((s : ℕ) × Responds x m s))
-  takes-only reads q = takes-by reads (check rows) refl (ap (λ (a : EndEntityAnswer). a .outcome) (sym (answer-at reads)) ∙ q)
+  takes-only reads q = takes-by reads (lowestRow rows) refl (ap (λ (a : EndEntityAnswer). a .outcome) (sym (answer-at reads)) ∙ q)

@@ -11,7 +11,7 @@ use Rattle.protocol.specs.declared.EndEntityInput.{EndEntityInput}
 use Rattle.protocol.specs.declared.TransactionTable.{TransactionTable}
 use Rattle.protocol.specs.declared.Enrolment.{Enrolment}
 use Rattle.protocol.specs.Message.{fieldsOf, Fields}
-use Rattle.protocol.specs.Refusals.{check}
+use Rattle.protocol.specs.Refusals.{lowestRow}
 use Rattle.protocol.specs.Registrar.{registrarMessage, registrarFields}
 use Rattle.protocol.specs.EndEntityRows.{endEntityRows}
 use Rattle.protocol.specs.EndEntity.{endEntityMessage, endEntityChecked}
@@ -24,5 +24,5 @@ registrar-fields t d a b m n p q e = message-at t d a m p ∙ ap (registrarField
 pub end-entity-fields : (x : Enrolment) (d : EndEntityInput) (a b : List ℕ) (m n : Message) → readingOf a ≡ read.Clean m → readingOf b ≡ read.Clean n → fieldsOf a m ≡ fieldsOf b n → endEntityMessage x d a ≡ endEntityMessage x d b
 end-entity-fields x d a b m n p q e =
     answer-at x d a m p
-    ∙ ap (λ (f : Fields). endEntityChecked (check (endEntityRows x (d .good) f)) x d f) e
+    ∙ ap (λ (f : Fields). endEntityChecked (lowestRow (endEntityRows x (d .good) f)) x d f) e
     ∙ sym (answer-at x d b n q)

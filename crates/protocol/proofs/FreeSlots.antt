@@ -8,40 +8,40 @@ use native.Mathlib.Omega.{arith}
 use lib.ListN.{getElem?}
 use Rattle.protocol.specs.declared.Transaction.{Transaction}
 use Rattle.protocol.specs.declared.TransactionState.the-variants as at-registrar
-use Rattle.protocol.specs.Table.{hasRoom, isFree, put, freeSlot}
+use Rattle.protocol.specs.Table.{hasFreeSlot, isFree, put, freeSlot}
 use Rattle.protocol.proofs.Tests.{true-false, none-some, some-some}
 use Rattle.protocol.proofs.RegistrarStates.{is-free}
 
 room-at :
     (r : Transaction) (rs : List Transaction) →
-    (hasRoom rs ≡ true → (p : ℕ) × (x : Transaction) × (getElem? rs p ≡ some x) × (x .state ≡ at-registrar.Free)) → (b : Bool) →
-    isFree (r .state) ≡ b → cond b true (hasRoom rs) ≡ true →
+    (hasFreeSlot rs ≡ true → (p : ℕ) × (x : Transaction) × (getElem? rs p ≡ some x) × (x .state ≡ at-registrar.Free)) → (b : Bool) →
+    isFree (r .state) ≡ b → cond b true (hasFreeSlot rs) ≡ true →
     (p : ℕ) × (x : Transaction) × (getElem? (r ∷ rs) p ≡ some x) × (x .state ≡ at-registrar.Free)
 room-at r rs ih true q e = (0, r, refl, is-free (r .state) q)
 room-at r rs ih false q e = let g : (p : ℕ) × (x : Transaction) × (getElem? rs p ≡ some x) × (x .state ≡ at-registrar.Free) = ih e in (suc (g .0), g .1, g .2, g .3)
 
 -- where there is room, some slot is free
-pub room-free : (rs : List Transaction) → hasRoom rs ≡ true → (p : ℕ) × (x : Transaction) × (getElem? rs p ≡ some x) × (x .state ≡ at-registrar.Free)
-unfolding hasRoom
+pub room-free : (rs : List Transaction) → hasFreeSlot rs ≡ true → (p : ℕ) × (x : Transaction) × (getElem? rs p ≡ some x) × (x .state ≡ at-registrar.Free)
+unfolding hasFreeSlot
 room-free [] e = true-false (sym e)
 room-free (r ∷ rs) e = room-at r rs (λ q. room-free rs q) (isFree (r .state)) refl e
 
-free-room-at : (r : Transaction) (rs : List Transaction) → hasRoom rs ≡ true → (b : Bool) → cond b true (hasRoom rs) ≡ true
+free-room-at : (r : Transaction) (rs : List Transaction) → hasFreeSlot rs ≡ true → (b : Bool) → cond b true (hasFreeSlot rs) ≡ true
 free-room-at r rs h true = refl
 free-room-at r rs h false = h
 
-pub free-room : (rs : List Transaction) (p : ℕ) (x : Transaction) → getElem? rs p ≡ some x → x .state ≡ at-registrar.Free → hasRoom rs ≡ true
-unfolding hasRoom
+pub free-room : (rs : List Transaction) (p : ℕ) (x : Transaction) → getElem? rs p ≡ some x → x .state ≡ at-registrar.Free → hasFreeSlot rs ≡ true
+unfolding hasFreeSlot
 free-room [] p x e f = none-some e
 free-room (r ∷ rs) zero x e f = rw (some-some e, f)
 free-room (r ∷ rs) (suc p) x e f = free-room-at r rs (free-room rs p x e f) (isFree (r .state))
 
-put-at : (x r : Transaction) (rs : List Transaction) → (hasRoom rs ≡ true → getElem? (put rs x) (freeSlot rs) ≡ some x) → (b : Bool) → cond b true (hasRoom rs) ≡ true → getElem? (cond b (x ∷ rs) (r ∷ put rs x)) (cond b 0 (suc (freeSlot rs))) ≡ some x
+put-at : (x r : Transaction) (rs : List Transaction) → (hasFreeSlot rs ≡ true → getElem? (put rs x) (freeSlot rs) ≡ some x) → (b : Bool) → cond b true (hasFreeSlot rs) ≡ true → getElem? (cond b (x ∷ rs) (r ∷ put rs x)) (cond b 0 (suc (freeSlot rs))) ≡ some x
 put-at x r rs ih true h = refl
 put-at x r rs ih false h = ih h
 
-pub put-there : (rs : List Transaction) (x : Transaction) → hasRoom rs ≡ true → getElem? (put rs x) (freeSlot rs) ≡ some x
-unfolding hasRoom put freeSlot
+pub put-there : (rs : List Transaction) (x : Transaction) → hasFreeSlot rs ≡ true → getElem? (put rs x) (freeSlot rs) ≡ some x
+unfolding hasFreeSlot put freeSlot
 put-there [] x h = true-false (sym h)
 put-there (r ∷ rs) x h = put-at x r rs (λ q. put-there rs x q) (isFree (r .state)) h
 

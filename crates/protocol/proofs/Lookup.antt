@@ -9,7 +9,7 @@ use Rattle.protocol.specs.declared.TransactionId.{TransactionId}
 use Rattle.protocol.specs.declared.Transaction.{Transaction}
 use Rattle.protocol.specs.declared.TransactionTable.{TransactionTable}
 use Rattle.protocol.specs.Bytes.{sameId}
-use Rattle.protocol.specs.Table.{isFree, lookup, isFor, replace, put, hasRoom, freeTransaction, emptyTable, capacity}
+use Rattle.protocol.specs.Table.{isFree, lookup, isFor, replace, put, hasFreeSlot, freeTransaction, emptyTable, capacity}
 use Rattle.protocol.specs.Agreement.{RegistrarHolds}
 use Rattle.der.proofs.Auto.{and-right, and-left}
 use Rattle.protocol.proofs.Tests.{id-eq, sameBytes-refl, some-some, none-some, true-false}
@@ -126,16 +126,16 @@ put-other (r ∷ rs) j x f = put-other-at j x r rs f (put-other rs j x f) (isFre
 
 put-same-at :
     (i : TransactionId) (x r : Transaction) (rs : List Transaction) → isFor i x ≡ true →
-    (lookup rs i ≡ none → hasRoom rs ≡ true → lookup (put rs x) i ≡ some x) → (b : Bool) → isFree (r .state) ≡ b → (c : Bool) →
-    isFor i r ≡ c → cond c (some r) (lookup rs i) ≡ none → cond b true (hasRoom rs) ≡ true →
+    (lookup rs i ≡ none → hasFreeSlot rs ≡ true → lookup (put rs x) i ≡ some x) → (b : Bool) → isFree (r .state) ≡ b → (c : Bool) →
+    isFor i r ≡ c → cond c (some r) (lookup rs i) ≡ none → cond b true (hasFreeSlot rs) ≡ true →
     lookup (cond b (x ∷ rs) (r ∷ put rs x)) i ≡ some x
 unfolding lookup
 put-same-at i x r rs f ih true q c g n h = rw f
 put-same-at i x r rs f ih false q true g n h = none-some (sym n)
 put-same-at i x r rs f ih false q false g n h = rw g (ih n h)
 
-pub put-same : (rs : List Transaction) (i : TransactionId) (x : Transaction) → isFor i x ≡ true → lookup rs i ≡ none → hasRoom rs ≡ true → lookup (put rs x) i ≡ some x
-unfolding lookup put hasRoom
+pub put-same : (rs : List Transaction) (i : TransactionId) (x : Transaction) → isFor i x ≡ true → lookup rs i ≡ none → hasFreeSlot rs ≡ true → lookup (put rs x) i ≡ some x
+unfolding lookup put hasFreeSlot
 put-same [] i x f n h = true-false (sym h)
 put-same (r ∷ rs) i x f n h = put-same-at i x r rs f (λ p q. put-same rs i x f p q) (isFree (r .state)) refl (isFor i r) refl n h
 

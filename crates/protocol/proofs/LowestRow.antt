@@ -22,7 +22,7 @@ use Rattle.protocol.specs.Bytes.{asId}
 use Rattle.protocol.specs.Message.{Fields, statusOr0, pkiConf, fieldsOf, errorKind}
 use Rattle.protocol.specs.Table.{lookup}
 use Rattle.protocol.specs.States.{isGranted}
-use Rattle.protocol.specs.Refusals.{Row, stop, check, pass, Check}
+use Rattle.protocol.specs.Refusals.{Row, stop, lowestRow, pass, LowestRow}
 use Rattle.protocol.specs.RegistrarRows.{registrarRows}
 use Rattle.protocol.specs.Registrar.{registrarChecked, registrarFields, registrarMessage}
 use Rattle.protocol.specs.EndEntityRows.{endEntityRows}
@@ -35,10 +35,10 @@ use Rattle.protocol.proofs.ConfirmationMoves.{message-at}
 
 -- an outcome that is the check's
 pub record Follows (rows : List Row) (o : Outcome) : Type 0 where
-  pub stopsIt : (k : ℕ) → check rows ≡ stop k → (b : FailureInfo) × (o ≡ outcome.Refused k b)
-  pub passesIt : check rows ≡ pass → (n : ℕ) (b : FailureInfo) → o ≡ outcome.Refused n b → ⊥
+  pub stopsIt : (k : ℕ) → lowestRow rows ≡ stop k → (b : FailureInfo) × (o ≡ outcome.Refused k b)
+  pub passesIt : lowestRow rows ≡ pass → (n : ℕ) (b : FailureInfo) → o ≡ outcome.Refused n b → ⊥
 
-number-of : (rows : List Row) (o : Outcome) → Follows rows o → (n : ℕ) (b : FailureInfo) → o ≡ outcome.Refused n b → (c : Check) → check rows ≡ c → check rows ≡ stop n
+number-of : (rows : List Row) (o : Outcome) → Follows rows o → (n : ℕ) (b : FailureInfo) → o ≡ outcome.Refused n b → (c : LowestRow) → lowestRow rows ≡ c → lowestRow rows ≡ stop n
 number-of rows o f n b e pass h = absurd (f .passesIt h n b e)
 number-of rows o f n b e (stop k) h =
     let g : (c : FailureInfo) × (o ≡ outcome.Refused k c) = f .stopsIt k h in
@@ -47,9 +47,9 @@ number-of rows o f n b e (stop k) h =
 pub lowest-given : (rows : List Row) (o : Outcome) → ascending rows ≡ true → Follows rows o → LowestGiven rows o
 lowest-given rows o a f =
     record {
-      given = λ n b e. stops rows n (number-of rows o f n b e (check rows) refl);
-      lowest = λ n b e. least rows n a (number-of rows o f n b e (check rows) refl);
-      whenever = λ k p. let s : (n : ℕ) × (check rows ≡ stop n) = stopped rows k p in (s .0, f .stopsIt (s .0) (s .1) .0, f .stopsIt (s .0) (s .1) .1);
+      given = λ n b e. stops rows n (number-of rows o f n b e (lowestRow rows) refl);
+      lowest = λ n b e. least rows n a (number-of rows o f n b e (lowestRow rows) refl);
+      whenever = λ k p. let s : (n : ℕ) × (lowestRow rows ≡ stop n) = stopped rows k p in (s .0, f .stopsIt (s .0) (s .1) .0, f .stopsIt (s .0) (s .1) .1);
     }
 
 -- ## The registrar
@@ -68,8 +68,8 @@ module _ (t : TransactionTable) (d : RegistrarInput) (m : Fields) where
   unfolding registrarFields registrarChecked
   follows-registrar =
       record {
-        stopsIt = λ k e. (_, ap (λ (c : Check). registrarChecked c g t d m .outcome) e);
-        passesIt = λ e n b q. passed-registrar g n b (sym (ap (λ (c : Check). registrarChecked c g t d m .outcome) e) ∙ q);
+        stopsIt = λ k e. (_, ap (λ (c : LowestRow). registrarChecked c g t d m .outcome) e);
+        passesIt = λ e n b q. passed-registrar g n b (sym (ap (λ (c : LowestRow). registrarChecked c g t d m .outcome) e) ∙ q);
       }
 
   lowest-fields : LowestGiven (registrarRows (t .transactions) g (d .verdict) m) (registrarFields t d m .outcome)
@@ -95,15 +95,15 @@ module _ (x : Enrolment) (d : EndEntityInput) (m : Fields) where
       (λ _. cases (NotRefused n b) (eqb (m .kind) errorKind) _ _ (λ _ z. done-refused n b z)
       (λ _. cases (NotRefused n b) (eqb (statusOr0 (m .status)) 2) _ _ (λ _ z. done-refused n b z) (λ _ z. done-refused n b z)))
 
-  follows-end : Follows (endEntityRows x (d .good) m) (endEntityChecked (check (endEntityRows x (d .good) m)) x d m .outcome)
+  follows-end : Follows (endEntityRows x (d .good) m) (endEntityChecked (lowestRow (endEntityRows x (d .good) m)) x d m .outcome)
   unfolding endEntityChecked
   follows-end =
       record {
-        stopsIt = λ k e. (_, ap (λ (c : Check). endEntityChecked c x d m .outcome) e);
-        passesIt = λ e n b q. passed-end n b (sym (ap (λ (c : Check). endEntityChecked c x d m .outcome) e) ∙ q);
+        stopsIt = λ k e. (_, ap (λ (c : LowestRow). endEntityChecked c x d m .outcome) e);
+        passesIt = λ e n b q. passed-end n b (sym (ap (λ (c : LowestRow). endEntityChecked c x d m .outcome) e) ∙ q);
       }
 
-  lowest-end : LowestGiven (endEntityRows x (d .good) m) (endEntityChecked (check (endEntityRows x (d .good) m)) x d m .outcome)
+  lowest-end : LowestGiven (endEntityRows x (d .good) m) (endEntityChecked (lowestRow (endEntityRows x (d .good) m)) x d m .outcome)
   unfolding endEntityRows
   lowest-end = lowest-given _ _ refl follows-end
 

@@ -23,9 +23,9 @@ use Rattle.protocol.specs.declared.Verdict.the-variants.{Bad, Good}
 use Rattle.protocol.specs.Bytes.{asId, asNonce}
 use Rattle.protocol.specs.Message.{Fields, certConf, statusOr0, fieldsOf}
 use Rattle.protocol.specs.Outgoing.{pkiConfOut, errorOut, silent}
-use Rattle.protocol.specs.Table.{lookup, replace, isFree, hasRoom, put}
+use Rattle.protocol.specs.Table.{lookup, replace, isFree, hasFreeSlot, put}
 use Rattle.protocol.specs.States.{isGranted, settledBy, settledState}
-use Rattle.protocol.specs.Refusals.{check, pass, Check, stop}
+use Rattle.protocol.specs.Refusals.{lowestRow, pass, LowestRow, stop}
 use Rattle.protocol.specs.RegistrarRows.{registrarRows}
 use Rattle.protocol.specs.Registrar.{settled, confirmed, opened, openedTransaction, registrarChecked, registrarRead, registrarFields, registrarMessage}
 use Rattle.protocol.specs.Run.{Event, OneBoard, World, sentBy, ToRegistrar}
@@ -66,7 +66,7 @@ module _ (w : World) (v : Inv w) (bytes : List ℕ) (m : Message) where
   abbrev f : Fields
   f = fieldsOf bytes m
 
-  confirms-by : (r : Transaction) (a : Board) → check (registrarRows (recs w v) (some r) (Good a) f) ≡ pass → (o : Outgoing) → Issued (OneBoard a) o (w .past) → Carries bytes m o → Confirms (w .past) r f o
+  confirms-by : (r : Transaction) (a : Board) → lowestRow (registrarRows (recs w v) (some r) (Good a) f) ≡ pass → (o : Outgoing) → Issued (OneBoard a) o (w .past) → Carries bytes m o → Confirms (w .past) r f o
   confirms-by r a e o q c =
       let k : o .kind ≡ certConf = sym (kind-read bytes m o c) ∙ kind-is (recs w v) r (Good a) f e in
       let b : a ≡ r .board = board-eq a (r .board) (eqb-eq (a .0) (r .board .0) (names-it (recs w v) r (Good a) f e)) in
@@ -83,7 +83,7 @@ module _ (w : World) (v : Inv w) (bytes : List ℕ) (m : Message) where
         takes = takes-it (recs w v) r (Good a) f e;
       }
 
-  confirms-with : (r : Transaction) (vd : Verdict) → check (registrarRows (recs w v) (some r) vd f) ≡ pass → ByReading vd bytes (read.Clean m) (w .past) → (o : Outgoing) × Confirms (w .past) r f o
+  confirms-with : (r : Transaction) (vd : Verdict) → lowestRow (registrarRows (recs w v) (some r) vd f) ≡ pass → ByReading vd bytes (read.Clean m) (w .past) → (o : Outgoing) × Confirms (w .past) r f o
   confirms-with r Bad e q = true-false (sym (names-it (recs w v) r Bad f e))
   confirms-with r (Good a) e (o, q, c) = (o, confirms-by r a e o q c)
 
@@ -170,7 +170,7 @@ module _ (w : World) (v : Inv w) (m : Fields) (n : Nonce) where
 -- ## A request
 
 module _ (w : World) (v : Inv w) (m : Fields) (n : Nonce) where
-  opens : (vd : Verdict) → lookup (recs w v) (asId (m .id)) ≡ none → hasRoom (recs w v) ≡ true → StepOf w v (open-still w v) (opened (w .table) vd m)
+  opens : (vd : Verdict) → lookup (recs w v) (asId (m .id)) ≡ none → hasFreeSlot (recs w v) ≡ true → StepOf w v (open-still w v) (opened (w .table) vd m)
   opens vd h room =
       let x : Transaction = openedTransaction vd m in
       registrar-one
@@ -198,7 +198,7 @@ module _ (w : World) (v : Inv w) (bytes : List ℕ) (m : Message) (d : Registrar
   error-quiet true i n a b p e k = let z : _≡_ {A = ℕ} 23 19 = ap (λ (y : Outgoing). y .kind) (some-some e) ∙ k in omega arith
   error-quiet false i n a b p e k = none-some e
 
-  checked : ByReading (d .verdict) bytes (read.Clean m) (w .past) → (g : Option Transaction) → lookup (recs w v) (asId (fields .id)) ≡ g → (k : Check) → check (registrarRows (recs w v) g (d .verdict) fields) ≡ k → StepOf w v (open-still w v) (registrarChecked k g (w .table) d fields)
+  checked : ByReading (d .verdict) bytes (read.Clean m) (w .past) → (g : Option Transaction) → lookup (recs w v) (asId (fields .id)) ≡ g → (k : LowestRow) → lowestRow (registrarRows (recs w v) g (d .verdict) fields) ≡ k → StepOf w v (open-still w v) (registrarChecked k g (w .table) d fields)
   unfolding registrarChecked
   checked q g h (stop k) e = registrar-idle w v (sentBy (leb 6 k) _) (error-quiet (leb 6 k) _ _ _ _)
   checked q none h pass e = opens w v fields (d .nonce) (d .verdict) h (room (recs w v) (d .verdict) fields e)
@@ -210,7 +210,7 @@ read-step : (w : World) (v : Inv w) (bytes : List ℕ) (d : RegistrarInput) (r :
 unfolding registrarRead registrarFields
 read-step w v bytes d (read.Refused f) q = registrar-idle w v none quiet-none
 read-step w v bytes d (read.Clean m) q =
-    checked w v bytes m d q (lookup (recs w v) (asId (fieldsOf bytes m .id))) refl (check (registrarRows (recs w v) (lookup (recs w v) (asId (fieldsOf bytes m .id))) (d .verdict) (fieldsOf bytes m))) refl
+    checked w v bytes m d q (lookup (recs w v) (asId (fieldsOf bytes m .id))) refl (lowestRow (registrarRows (recs w v) (lookup (recs w v) (asId (fieldsOf bytes m .id))) (d .verdict) (fieldsOf bytes m))) refl
 
 pub message-step : (w : World) (v : Inv w) (bytes : List ℕ) (d : RegistrarInput) → SenderIssued (ToRegistrar bytes d) (w .past) → StepOf w v (open-still w v) (registrarMessage (w .table) d bytes)
 unfolding registrarMessage

@@ -10,21 +10,21 @@ use Rattle.protocol.specs.declared.Verdict.{Verdict}
 use Rattle.protocol.specs.declared.Transaction.{Transaction}
 use Rattle.protocol.specs.Bytes.{isNonce, sameHash}
 use Rattle.protocol.specs.Message.{Fields, statusOr0, certConf}
-use Rattle.protocol.specs.Table.{hasRoom}
+use Rattle.protocol.specs.Table.{hasFreeSlot}
 use Rattle.protocol.specs.States.{hasSent, hasHash, isGranted, settledBy}
-use Rattle.protocol.specs.Refusals.{pass, check, notSixteen}
+use Rattle.protocol.specs.Refusals.{pass, lowestRow, notSixteen}
 use Rattle.protocol.specs.RegistrarRows.{registrarRows, isGood, confirms, opens, names, hasEntries, oneEntry, repeats}
 use Rattle.der.proofs.Auto.{and-right, and-left}
 use Rattle.protocol.proofs.Tests.{passes, one-of, not-false, or-right, and-true-false, true-false, eqb-eq, and-false, isNonce-eq, or-true, both, hash-eq, or-left}
 
 -- 7: the verdict is good
-pub passes-7 : (rs : List Transaction) (g : Option Transaction) (v : Verdict) (m : Fields) → check (registrarRows rs g v m) ≡ pass → not (isGood v) ≡ false
+pub passes-7 : (rs : List Transaction) (g : Option Transaction) (v : Verdict) (m : Fields) → lowestRow (registrarRows rs g v m) ≡ pass → not (isGood v) ≡ false
 unfolding registrarRows
 passes-7 rs g v m e = passes 7 (registrarRows rs g v m) e
 
 -- ## A confirmation: r is the transaction with its id
 
-module _ (rs : List Transaction) (r : Transaction) (v : Verdict) (m : Fields) (e : check (registrarRows rs (some r) v m) ≡ pass) where
+module _ (rs : List Transaction) (r : Transaction) (v : Verdict) (m : Fields) (e : lowestRow (registrarRows rs (some r) v m) ≡ pass) where
   abbrev s : ℕ
   s = statusOr0 (m .status)
 
@@ -115,7 +115,7 @@ module _ (rs : List Transaction) (r : Transaction) (v : Verdict) (m : Fields) (e
 
 -- ## A request
 
-module _ (rs : List Transaction) (v : Verdict) (m : Fields) (e : check (registrarRows rs none v m) ≡ pass) where
+module _ (rs : List Transaction) (v : Verdict) (m : Fields) (e : lowestRow (registrarRows rs none v m) ≡ pass) where
   pub opens-it : opens m ≡ true
   unfolding registrarRows
   opens-it =
@@ -123,6 +123,6 @@ module _ (rs : List Transaction) (v : Verdict) (m : Fields) (e : check (registra
       let h8 : not (opens m || confirms m) ≡ false = passes 8 (registrarRows rs none v m) e in
       or-left (opens m) (confirms m) (not-false _ h8) (and-true-false (confirms m) h12)
 
-  pub room : hasRoom rs ≡ true
+  pub room : hasFreeSlot rs ≡ true
   unfolding registrarRows
-  room = not-false (hasRoom rs) (and-false (opens m) (not (hasRoom rs)) (passes 11 (registrarRows rs none v m) e) opens-it)
+  room = not-false (hasFreeSlot rs) (and-false (opens m) (not (hasFreeSlot rs)) (passes 11 (registrarRows rs none v m) e) opens-it)

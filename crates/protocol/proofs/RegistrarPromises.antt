@@ -7,7 +7,7 @@ use mathlib.Core.Path.{_≡_, refl, sym, _∙_, ap, subst}
 use mathlib.Core.Logic.{inl, inr}
 use native.Mathlib.Omega.{arith}
 use lib.Dec.{eqb}
-use Rattle.message.specs.declared.Fault.{Fault}
+use Rattle.message.specs.declared.ReadFault.{ReadFault}
 use Rattle.message.specs.Read.{readingOf}
 use Rattle.message.specs.declared.Reading.{Reading}
 use Rattle.message.specs.declared.Reading.the-variants as read
@@ -26,7 +26,7 @@ use Rattle.protocol.specs.Bytes.{asId, asNonce}
 use Rattle.protocol.specs.Message.{Fields, statusOr0, fieldsOf}
 use Rattle.protocol.specs.Table.{isFree, freeTransaction, lookup}
 use Rattle.protocol.specs.States.{isAsked, hasHash, isGranted, mayClose, settledState}
-use Rattle.protocol.specs.Refusals.{check, Row, stop, Check, pass, readRefusal, noFault}
+use Rattle.protocol.specs.Refusals.{lowestRow, Row, stop, LowestRow, pass, readRefusal, noFault}
 use Rattle.protocol.specs.RegistrarRows.{registrarRows}
 use Rattle.protocol.specs.Registrar.{hostStep, refusedQuietly, registrarIssue, responded, registrarRefuse, registrarLapse, settled, registrarClose, openedTransaction, registrarChecked, registrarRead, registrarFields, registrarMessage}
 use Rattle.protocol.specs.Promises.{AtMostOne, OneOf, RegistrarPromise, UnsetZero, hostNumbers, registrarNumbers}
@@ -61,7 +61,7 @@ module _ (ns : List ℕ) (t : TransactionTable) where
   at-most-one p u c o = unique-one (u .transactions) (c .one (one-unique (t .transactions) o))
 
   -- refused: the table is the same
-  refusing : (k : ℕ) (c : FailureInfo) (f : Fault) (s : Bool) (o : Outgoing) → OneOf k ns → RegistrarPromise ns t (record { outcome = outcome.Refused k c; fault = f; slot = record { 0 = 0 }; sends = s; outgoing = o; table = t })
+  refusing : (k : ℕ) (c : FailureInfo) (f : ReadFault) (s : Bool) (o : Outgoing) → OneOf k ns → RegistrarPromise ns t (record { outcome = outcome.Refused k c; fault = f; slot = record { 0 = 0 }; sends = s; outgoing = o; table = t })
   refusing k c f s o i =
       record {
         number = λ n b e. subst (λ (j : ℕ). OneOf j ns) (refused-number k n c b e) i;
@@ -156,7 +156,7 @@ module _ (t : TransactionTable) (d : RegistrarInput) where
   read-number true = inl refl
   read-number false = inr (inl refl)
 
-  row-number : (f : Option Transaction) (m : Fields) (k : ℕ) → check (registrarRows (t .transactions) f (d .verdict) m) ≡ stop k → OneOf k registrarNumbers
+  row-number : (f : Option Transaction) (m : Fields) (k : ℕ) → lowestRow (registrarRows (t .transactions) f (d .verdict) m) ≡ stop k → OneOf k registrarNumbers
   unfolding registrarRows
   row-number f m k e =
       let rows : List Row = registrarRows (t .transactions) f (d .verdict) m in
@@ -169,7 +169,7 @@ module _ (t : TransactionTable) (d : RegistrarInput) where
   settled-full s r n true = full _ refl refl refl
   settled-full s r n false = full _ refl refl refl
 
-  checked-promise : (m : Fields) (f : Option Transaction) → lookup (t .transactions) (asId (m .id)) ≡ f → (c : Check) → check (registrarRows (t .transactions) f (d .verdict) m) ≡ c → Kept (registrarChecked c f t d m)
+  checked-promise : (m : Fields) (f : Option Transaction) → lookup (t .transactions) (asId (m .id)) ≡ f → (c : LowestRow) → lowestRow (registrarRows (t .transactions) f (d .verdict) m) ≡ c → Kept (registrarChecked c f t d m)
   unfolding registrarChecked
   checked-promise m f h (stop k) e = refusing registrarNumbers t k _ _ _ _ (row-number f m k e)
   checked-promise m none h pass e = doing registrarNumbers t _ _ _ _ (putting t (openedTransaction (d .verdict) m) h (opened-unset m))
@@ -183,7 +183,7 @@ module _ (t : TransactionTable) (d : RegistrarInput) where
   read-promise : (bytes : List ℕ) (r : Reading) → Kept (registrarRead r t d bytes)
   unfolding registrarRead registrarFields
   read-promise bytes (read.Refused f) = refusing registrarNumbers t (readRefusal f) _ _ _ _ (read-number (eqb (f .number) 1))
-  read-promise bytes (read.Clean m) = checked-promise (fieldsOf bytes m) (lookup (t .transactions) (asId (fieldsOf bytes m .id))) refl (check (registrarRows (t .transactions) (lookup (t .transactions) (asId (fieldsOf bytes m .id))) (d .verdict) (fieldsOf bytes m))) refl
+  read-promise bytes (read.Clean m) = checked-promise (fieldsOf bytes m) (lookup (t .transactions) (asId (fieldsOf bytes m .id))) refl (lowestRow (registrarRows (t .transactions) (lookup (t .transactions) (asId (fieldsOf bytes m .id))) (d .verdict) (fieldsOf bytes m))) refl
 
   pub message-promise : (bytes : List ℕ) → Kept (registrarMessage t d bytes)
   unfolding registrarMessage

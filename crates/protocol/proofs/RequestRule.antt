@@ -23,8 +23,8 @@ use Rattle.protocol.specs.declared.TransactionState.the-variants as at-r
 use Rattle.protocol.specs.declared.Outcome.the-variants as outcome
 use Rattle.protocol.specs.Bytes.{present, asId, asNonce, noNonce, noHash}
 use Rattle.protocol.specs.Message.{optionalPart, partOf, Fields, fieldsOf, isPresent, isEnrolmentKind}
-use Rattle.protocol.specs.Table.{put, lookup, hasRoom, freeSlot}
-use Rattle.protocol.specs.Refusals.{check, Row, pass, Check, stop, otherVersion, noTransactionId, noSenderNonce, unprotected}
+use Rattle.protocol.specs.Table.{put, lookup, hasFreeSlot, freeSlot}
+use Rattle.protocol.specs.Refusals.{lowestRow, Row, pass, LowestRow, stop, otherVersion, noTransactionId, noSenderNonce, unprotected}
 use Rattle.protocol.specs.RegistrarRows.{isGood, registrarRows, oneEntry, hasEntries, opens, confirms, opensWithNonce}
 use Rattle.protocol.specs.Registrar.{registrarChecked, registrarMessage, openedTransaction, doneQuietly}
 use Rattle.protocol.specs.Confirmation.{Sixteen}
@@ -74,53 +74,53 @@ module _ (t : TransactionTable) (d : RegistrarInput) (bytes : List ℕ) (m : Mes
 
   -- ## Only if
 
-  module _ (reads : readingOf bytes ≡ read.Clean m) (kind : IsRequest (m .contents .kind)) (h : lookup rs (asId (f .id)) ≡ none) (e : check (registrarRows rs none (d .verdict) f) ≡ pass) where
+  module _ (reads : readingOf bytes ≡ read.Clean m) (kind : IsRequest (m .body .kind)) (h : lookup rs (asId (f .id)) ≡ none) (e : lowestRow (registrarRows rs none (d .verdict) f) ≡ pass) where
     abbrev rows : List Row
     rows = registrarRows rs none (d .verdict) f
 
     opening : Opening t d bytes m (good-names (d .verdict) (not-false _ (passes-7 rs none (d .verdict) f e)) .0)
     unfolding fieldsOf registrarRows
     opening =
-        let p : (isPresent (m .protection) && isPresent (m .fields .«protection_alg»)) ≡ true = not-false _ (passes 6 rows e) in
-        let i : Sixteen bytes (m .fields .«transaction_id») (partOf bytes (m .fields .«transaction_id»)) = sixteen bytes (m .fields .«transaction_id») (passes 4 rows e) in
-        let n : Sixteen bytes (m .fields .«sender_nonce») (partOf bytes (m .fields .«sender_nonce»)) = sixteen bytes (m .fields .«sender_nonce») (passes 5 rows e) in
-        let o : isEnrolmentKind (m .contents .kind) ≡ true = request-kind (m .contents .kind) kind in
+        let p : (isPresent (m .protection) && isPresent (m .header .«protection_alg»)) ≡ true = not-false _ (passes 6 rows e) in
+        let i : Sixteen bytes (m .header .«transaction_id») (partOf bytes (m .header .«transaction_id»)) = sixteen bytes (m .header .«transaction_id») (passes 4 rows e) in
+        let n : Sixteen bytes (m .header .«sender_nonce») (partOf bytes (m .header .«sender_nonce»)) = sixteen bytes (m .header .«sender_nonce») (passes 5 rows e) in
+        let o : isEnrolmentKind (m .body .kind) ≡ true = request-kind (m .body .kind) kind in
         let g : (q : ℕ) × (x : Transaction) × (getElem? rs q ≡ some x) × (x .state ≡ at-registrar.Free) = room-free rs (room rs (d .verdict) f e) in
-        let one : (m .contents .kind ≡ 4 → ⊥) → oneEntry f ≡ true = λ z. not-false (oneEntry f) (and-false (hasEntries f) (not (oneEntry f)) (passes 15 rows e) (counted (m .contents .kind) kind z)) in
+        let one : (m .body .kind ≡ 4 → ⊥) → oneEntry f ≡ true = λ z. not-false (oneEntry f) (and-false (hasEntries f) (not (oneEntry f)) (passes 15 rows e) (counted (m .body .kind) kind z)) in
         record {
           reads = reads;
           version = one-of (f .version) 2 3 (not-false _ (passes 3 rows e));
-          id = record { bytes = partOf bytes (m .fields .«transaction_id») };
+          id = record { bytes = partOf bytes (m .header .«transaction_id») };
           hasId = i;
-          nonce = record { bytes = partOf bytes (m .fields .«sender_nonce») };
+          nonce = record { bytes = partOf bytes (m .header .«sender_nonce») };
           senderNonce = n;
-          protection = present-part (m .protection) (and-left (isPresent (m .protection)) (isPresent (m .fields .«protection_alg»)) p);
-          algorithm = present-part (m .fields .«protection_alg») (and-right (isPresent (m .protection)) (isPresent (m .fields .«protection_alg»)) p);
+          protection = present-part (m .protection) (and-left (isPresent (m .protection)) (isPresent (m .header .«protection_alg»)) p);
+          algorithm = present-part (m .header .«protection_alg») (and-right (isPresent (m .protection)) (isPresent (m .header .«protection_alg»)) p);
           good = good-names (d .verdict) (not-false _ (passes-7 rs none (d .verdict) f e)) .1;
           kind = kind;
-          noRecipNonce = absent-test bytes (m .fields .«recip_nonce») (and-false (isEnrolmentKind (m .contents .kind)) (present (f .recipNonce)) (passes 9 rows e) o);
-          unknown = ap (λ (x : Option (List ℕ)). lookup rs (asId x)) (sym (part-there bytes (m .fields .«transaction_id») _ (i .0, refl))) ∙ h;
+          noRecipNonce = absent-test bytes (m .header .«recip_nonce») (and-false (isEnrolmentKind (m .body .kind)) (present (f .recipNonce)) (passes 9 rows e) o);
+          unknown = ap (λ (x : Option (List ℕ)). lookup rs (asId x)) (sym (part-there bytes (m .header .«transaction_id») _ (i .0, refl))) ∙ h;
           slot = g .0;
           held = g .1;
           holds = g .2;
           free = g .3;
           entries = λ z. eqb-eq (f .entries) 1 (one z);
-          request = λ z. eqb-eq (f .request) 0 (not-false _ (and-false (hasEntries f && oneEntry f) (not (eqb (f .request) 0)) (passes 16 rows e) (both (hasEntries f) (oneEntry f) (counted (m .contents .kind) kind z) (one z))));
+          request = λ z. eqb-eq (f .request) 0 (not-false _ (and-false (hasEntries f && oneEntry f) (not (eqb (f .request) 0)) (passes 16 rows e) (both (hasEntries f) (oneEntry f) (counted (m .body .kind) kind z) (one z))));
         }
 
   opens-by :
-      readingOf bytes ≡ read.Clean m → IsRequest (m .contents .kind) → (g : Option Transaction) → lookup rs (asId (f .id)) ≡ g →
-      (c : Check) → check (registrarRows rs g (d .verdict) f) ≡ c → (registrarChecked c g t d f) .outcome ≡ outcome.Done →
+      readingOf bytes ≡ read.Clean m → IsRequest (m .body .kind) → (g : Option Transaction) → lookup rs (asId (f .id)) ≡ g →
+      (c : LowestRow) → lowestRow (registrarRows rs g (d .verdict) f) ≡ c → (registrarChecked c g t d f) .outcome ≡ outcome.Done →
       (b : Board) × Opening t d bytes m b
   unfolding registrarChecked fieldsOf
   opens-by reads kind g h (stop k) e q = done-refused k _ (sym q)
   opens-by reads kind none h pass e q = (_, opening reads kind h e)
-  opens-by reads kind (some r) h pass e q = true-false (sym (conf rs r (d .verdict) f e) ∙ request-other (m .contents .kind) kind)
+  opens-by reads kind (some r) h pass e q = true-false (sym (conf rs r (d .verdict) f e) ∙ request-other (m .body .kind) kind)
 
-  opens-only : readingOf bytes ≡ read.Clean m → IsRequest (m .contents .kind) → registrarMessage t d bytes .outcome ≡ outcome.Done → (b : Board) × Opening t d bytes m b
+  opens-only : readingOf bytes ≡ read.Clean m → IsRequest (m .body .kind) → registrarMessage t d bytes .outcome ≡ outcome.Done → (b : Board) × Opening t d bytes m b
   opens-only reads kind q =
       let g : Option Transaction = lookup rs (asId (f .id)) in
-      let c : Check = check (registrarRows rs g (d .verdict) f) in
+      let c : LowestRow = lowestRow (registrarRows rs g (d .verdict) f) in
       opens-by reads kind g refl c refl (ap (λ (a : RegistrarAnswer). a .outcome) (sym (message-at t d bytes m reads ∙ fields-at t d bytes m g refl c refl)) ∙ q)
 
   -- ## If
@@ -128,23 +128,23 @@ module _ (t : TransactionTable) (d : RegistrarInput) (bytes : List ℕ) (m : Mes
   module _ (b : Board) (c : Opening t d bytes m b) where
     no-conf : confirms f ≡ false
     unfolding fieldsOf
-    no-conf = request-other (m .contents .kind) (c .kind)
+    no-conf = request-other (m .body .kind) (c .kind)
 
     request-it : opens f ≡ true
     unfolding fieldsOf
-    request-it = request-kind (m .contents .kind) (c .kind)
+    request-it = request-kind (m .body .kind) (c .kind)
 
-    room-it : hasRoom rs ≡ true
+    room-it : hasFreeSlot rs ≡ true
     room-it = free-room rs (c .slot) (c .held) (c .holds) (c .free)
 
-    entries-off : Dec (m .contents .kind ≡ 4) → (hasEntries f && not (oneEntry f)) ≡ false
+    entries-off : Dec (m .body .kind ≡ 4) → (hasEntries f && not (oneEntry f)) ≡ false
     unfolding fieldsOf
-    entries-off (yes e) = off-left (hasEntries f) (not (oneEntry f)) (p10cr-off (m .contents .kind) e)
+    entries-off (yes e) = off-left (hasEntries f) (not (oneEntry f)) (p10cr-off (m .body .kind) e)
     entries-off (no z) = off-right (hasEntries f) (not (oneEntry f)) (holds-not (oneEntry f) (same-number (f .entries) 1 (c .entries z)))
 
-    request-off : Dec (m .contents .kind ≡ 4) → (hasEntries f && oneEntry f && not (eqb (f .request) 0)) ≡ false
+    request-off : Dec (m .body .kind ≡ 4) → (hasEntries f && oneEntry f && not (eqb (f .request) 0)) ≡ false
     unfolding fieldsOf
-    request-off (yes e) = off-left (hasEntries f && oneEntry f) (not (eqb (f .request) 0)) (off-left (hasEntries f) (oneEntry f) (p10cr-off (m .contents .kind) e))
+    request-off (yes e) = off-left (hasEntries f && oneEntry f) (not (eqb (f .request) 0)) (off-left (hasEntries f) (oneEntry f) (p10cr-off (m .body .kind) e))
     request-off (no z) = off-right (hasEntries f && oneEntry f) (not (eqb (f .request) 0)) (holds-not (eqb (f .request) 0) (same-number (f .request) 0 (c .request z)))
 
     version-off : otherVersion f ≡ false
@@ -153,52 +153,52 @@ module _ (t : TransactionTable) (d : RegistrarInput) (bytes : List ℕ) (m : Mes
 
     id-off : noTransactionId f ≡ false
     unfolding fieldsOf
-    id-off = present-test bytes (m .fields .«transaction_id») (c .id .bytes) (c .hasId)
+    id-off = present-test bytes (m .header .«transaction_id») (c .id .bytes) (c .hasId)
 
     nonce-off : noSenderNonce f ≡ false
     unfolding fieldsOf
-    nonce-off = present-test bytes (m .fields .«sender_nonce») (c .nonce .bytes) (c .senderNonce)
+    nonce-off = present-test bytes (m .header .«sender_nonce») (c .nonce .bytes) (c .senderNonce)
 
     protection-off : unprotected f ≡ false
     unfolding fieldsOf
-    protection-off = holds-not (f .protected) (both (isPresent (m .protection)) (isPresent (m .fields .«protection_alg»)) (part-present (m .protection) (c .protection)) (part-present (m .fields .«protection_alg») (c .algorithm)))
+    protection-off = holds-not (f .protected) (both (isPresent (m .protection)) (isPresent (m .header .«protection_alg»)) (part-present (m .protection) (c .protection)) (part-present (m .header .«protection_alg») (c .algorithm)))
 
     recip-off : opensWithNonce f ≡ false
     unfolding fieldsOf
-    recip-off = off-right (opens f) (present (f .recipNonce)) (ap present (part-absent bytes (m .fields .«recip_nonce») (c .noRecipNonce)))
+    recip-off = off-right (opens f) (present (f .recipNonce)) (ap present (part-absent bytes (m .header .«recip_nonce») (c .noRecipNonce)))
 
     conf-off : (x y z : Bool) → (confirms f && x && y && z) ≡ false
     conf-off x y z = off-left (confirms f && x && y) z (off-left (confirms f && x) y (off-left (confirms f) x no-conf))
 
-    passes-all : check (registrarRows rs none (d .verdict) f) ≡ pass
+    passes-all : lowestRow (registrarRows rs none (d .verdict) f) ≡ pass
     unfolding registrarRows
     passes-all =
         check-is
         (skip version-off (skip id-off (skip nonce-off (skip protection-off (skip (rw (c .good)) (skip (holds-not (opens f || confirms f) (ap (λ (z : Bool). z || confirms f) request-it)) (skip recip-off
-        (skip (off-right (opens f) false refl) (skip (off-right (opens f) (not (hasRoom rs)) (holds-not (hasRoom rs) room-it))
-        (skip (off-left (confirms f) true no-conf) (skip (off-left (confirms f) _ no-conf) (skip (off-left (confirms f) _ no-conf) (skip (entries-off (ℕ-discrete (m .contents .kind) 4)) (skip (request-off (ℕ-discrete (m .contents .kind) 4))
+        (skip (off-right (opens f) false refl) (skip (off-right (opens f) (not (hasFreeSlot rs)) (holds-not (hasFreeSlot rs) room-it))
+        (skip (off-left (confirms f) true no-conf) (skip (off-left (confirms f) _ no-conf) (skip (off-left (confirms f) _ no-conf) (skip (entries-off (ℕ-discrete (m .body .kind) 4)) (skip (request-off (ℕ-discrete (m .body .kind) 4))
         (skip (conf-off (oneEntry f) (f .hashAlg) _) (skip (off-left (confirms f && oneEntry f) _ (off-left (confirms f) (oneEntry f) no-conf)) (skip (off-left (confirms f && oneEntry f) _ (off-left (confirms f) (oneEntry f) no-conf)) (skip (off-left (confirms f) _ no-conf) through))))))))))))))))))
 
     id-is : asId (f .id) ≡ c .id
     unfolding fieldsOf
-    id-is = ap asId (part-there bytes (m .fields .«transaction_id») (c .id .bytes) (c .hasId .0, c .hasId .1))
+    id-is = ap asId (part-there bytes (m .header .«transaction_id») (c .id .bytes) (c .hasId .0, c .hasId .1))
 
     nonce-is : asNonce (f .senderNonce) ≡ c .nonce
     unfolding fieldsOf
-    nonce-is = ap asNonce (part-there bytes (m .fields .«sender_nonce») (c .nonce .bytes) (c .senderNonce .0, c .senderNonce .1))
+    nonce-is = ap asNonce (part-there bytes (m .header .«sender_nonce») (c .nonce .bytes) (c .senderNonce .0, c .senderNonce .1))
 
     abbrev new : Transaction
-    new = record { id = c .id; board = b; kind = m .contents .kind; taken = c .nonce; sent = noNonce; hash = noHash; state = at-registrar.Asked }
+    new = record { id = c .id; board = b; kind = m .body .kind; taken = c .nonce; sent = noNonce; hash = noHash; state = at-registrar.Asked }
 
     new-is : openedTransaction (d .verdict) f ≡ new
     unfolding fieldsOf
-    new-is = rw (c .good) (λ i. record { id = id-is i; board = b; kind = m .contents .kind; taken = nonce-is i; sent = noNonce; hash = noHash; state = at-registrar.Asked })
+    new-is = rw (c .good) (λ i. record { id = id-is i; board = b; kind = m .body .kind; taken = nonce-is i; sent = noNonce; hash = noHash; state = at-registrar.Asked })
 
     answer-is : registrarMessage t d bytes ≡ doneQuietly (freeSlot rs) (put rs new)
     unfolding registrarChecked
     answer-is = message-at t d bytes m (c .reads) ∙ fields-at t d bytes m none (ap (lookup rs) id-is ∙ c .unknown) pass passes-all ∙ ap (λ (x : Transaction). doneQuietly (freeSlot rs) (put rs x)) new-is
 
-    opened-it : Opened t (m .contents .kind) b (c .id) (c .nonce) (doneQuietly (freeSlot rs) (put rs new))
+    opened-it : Opened t (m .body .kind) b (c .id) (c .nonce) (doneQuietly (freeSlot rs) (put rs new))
     opened-it =
         record {
           done = refl;
@@ -213,5 +213,5 @@ pub request-rule : (t : TransactionTable) (d : RegistrarInput) (bytes : List ℕ
 request-rule t d bytes m =
     record {
       opens = opens-only t d bytes m;
-      opened = λ b c. subst (Opened t (m .contents .kind) b (c .id) (c .nonce)) (sym (answer-is t d bytes m b c)) (opened-it t d bytes m b c);
+      opened = λ b c. subst (Opened t (m .body .kind) b (c .id) (c .nonce)) (sym (answer-is t d bytes m b c)) (opened-it t d bytes m b c);
     }

@@ -7,7 +7,7 @@ use mathlib.Core.Logic.{_⊎_, inl, inr}
 use native.Mathlib.Omega.{arith}
 use lib.Dec.{eqb, leb, leb→le}
 use native.Mathlib.Nat.{le-refl}
-use Rattle.protocol.specs.Refusals.{Row, stop, pass, check, Check}
+use Rattle.protocol.specs.Refusals.{Row, stop, pass, lowestRow, LowestRow}
 use Rattle.protocol.specs.Promises.{OneOf, Applies}
 use Rattle.der.proofs.Auto.{or-cases, and-left, and-right}
 use Rattle.protocol.proofs.Tests.{eqb-eq, true-false, true→T}
@@ -62,13 +62,13 @@ stop-stop m n e = cc
 pass-stop : {A : Type 0} (n : ℕ) → pass ≡ stop n → A
 pass-stop n e = let z : _≡_ {A = ℕ} 0 1 = cc in absurd (omega arith)
 
-stops-at : (r : Row) (rs : List Row) (n : ℕ) → (check rs ≡ stop n → Applies n rs) → (b : Bool) → r .applies ≡ b → cond b (stop (r .number)) (check rs) ≡ stop n → Applies n (r ∷ rs)
+stops-at : (r : Row) (rs : List Row) (n : ℕ) → (lowestRow rs ≡ stop n → Applies n rs) → (b : Bool) → r .applies ≡ b → cond b (stop (r .number)) (lowestRow rs) ≡ stop n → Applies n (r ∷ rs)
 stops-at r rs n ih true q e = inl (stop-stop (r .number) n e, q)
 stops-at r rs n ih false q e = inr (ih e)
 
 -- the number given is that of a row that applies
-pub stops : (rs : List Row) (n : ℕ) → check rs ≡ stop n → Applies n rs
-unfolding check
+pub stops : (rs : List Row) (n : ℕ) → lowestRow rs ≡ stop n → Applies n rs
+unfolding lowestRow
 stops [] n e = pass-stop n e
 stops (r ∷ rs) n e = stops-at r rs n (λ p. stops rs n p) (r .applies) refl e
 
@@ -77,37 +77,37 @@ below-applies n [] b k a = absurd a
 below-applies n (r ∷ rs) b k (inl g) = subst (λ (j : ℕ). n ≤ j) (g .0) (leb→le n (r .number) (true→T (leb n (r .number)) (and-left (leb n (r .number)) (below n rs) b)))
 below-applies n (r ∷ rs) b k (inr a) = below-applies n rs (and-right (leb n (r .number)) (below n rs) b) k a
 
-least-at : (r : Row) (rs : List Row) (n : ℕ) → below (r .number) rs ≡ true → (check rs ≡ stop n → (k : ℕ) → Applies k rs → n ≤ k) → (b : Bool) → r .applies ≡ b → cond b (stop (r .number)) (check rs) ≡ stop n → (k : ℕ) → Applies k (r ∷ rs) → n ≤ k
+least-at : (r : Row) (rs : List Row) (n : ℕ) → below (r .number) rs ≡ true → (lowestRow rs ≡ stop n → (k : ℕ) → Applies k rs → n ≤ k) → (b : Bool) → r .applies ≡ b → cond b (stop (r .number)) (lowestRow rs) ≡ stop n → (k : ℕ) → Applies k (r ∷ rs) → n ≤ k
 least-at r rs n l ih true q e k (inl g) = subst (λ (j : ℕ). n ≤ j) (g .0) (subst (λ (j : ℕ). n ≤ j) (sym (stop-stop (r .number) n e)) (le-refl n))
 least-at r rs n l ih true q e k (inr a) = subst (λ (j : ℕ). j ≤ k) (stop-stop (r .number) n e) (below-applies (r .number) rs l k a)
 least-at r rs n l ih false q e k (inl g) = true-false (sym (g .1) ∙ q)
 least-at r rs n l ih false q e k (inr a) = ih e k a
 
 -- and no row with a lower number applies
-pub least : (rs : List Row) (n : ℕ) → ascending rs ≡ true → check rs ≡ stop n → (k : ℕ) → Applies k rs → n ≤ k
-unfolding check
+pub least : (rs : List Row) (n : ℕ) → ascending rs ≡ true → lowestRow rs ≡ stop n → (k : ℕ) → Applies k rs → n ≤ k
+unfolding lowestRow
 least [] n a e = pass-stop n e
 least (r ∷ rs) n a e = least-at r rs n (and-left (below (r .number) rs) (ascending rs) a) (λ p. least rs n (and-right (below (r .number) rs) (ascending rs) a) p) (r .applies) refl e
 
-stopped-at : (r : Row) (rs : List Row) (k : ℕ) → (Applies k rs → (n : ℕ) × (check rs ≡ stop n)) → (b : Bool) → r .applies ≡ b → Applies k (r ∷ rs) → (n : ℕ) × (cond b (stop (r .number)) (check rs) ≡ stop n)
+stopped-at : (r : Row) (rs : List Row) (k : ℕ) → (Applies k rs → (n : ℕ) × (lowestRow rs ≡ stop n)) → (b : Bool) → r .applies ≡ b → Applies k (r ∷ rs) → (n : ℕ) × (cond b (stop (r .number)) (lowestRow rs) ≡ stop n)
 stopped-at r rs k ih true q a = (r .number, refl)
 stopped-at r rs k ih false q (inl g) = true-false (sym (g .1) ∙ q)
 stopped-at r rs k ih false q (inr a) = ih a
 
 -- where a row applies, a number is given
-pub stopped : (rs : List Row) (k : ℕ) → Applies k rs → (n : ℕ) × (check rs ≡ stop n)
-unfolding check
+pub stopped : (rs : List Row) (k : ℕ) → Applies k rs → (n : ℕ) × (lowestRow rs ≡ stop n)
+unfolding lowestRow
 stopped [] k a = absurd a
 stopped (r ∷ rs) k a = stopped-at r rs k (λ p. stopped rs k p) (r .applies) refl a
 
 -- a table of rows walked from the top: what the check gives
-pub data Lowest : List Row → Check → Type 0 where
+pub data Lowest : List Row → LowestRow → Type 0 where
   through : Lowest [] pass
-  skip : {r : Row} {rs : List Row} {c : Check} → r .applies ≡ false → Lowest rs c → Lowest (r ∷ rs) c
+  skip : {r : Row} {rs : List Row} {c : LowestRow} → r .applies ≡ false → Lowest rs c → Lowest (r ∷ rs) c
   halt : {r : Row} {rs : List Row} → r .applies ≡ true → Lowest (r ∷ rs) (stop (r .number))
 
-pub check-is : {rs : List Row} {c : Check} → Lowest rs c → check rs ≡ c
-unfolding check
+pub check-is : {rs : List Row} {c : LowestRow} → Lowest rs c → lowestRow rs ≡ c
+unfolding lowestRow
 check-is through = refl
 check-is (skip e l) = rw e (check-is l)
 check-is (halt e) = rw e

@@ -9,7 +9,7 @@ use lib.Dec.{leb, leb→le, le→leb}
 use Rattle.message.specs.Read.{readingOf}
 use Rattle.message.specs.declared.Reading.the-variants as read
 use Rattle.grammar.specs.declared.Message.{Message}
-use Rattle.message.specs.declared.Fault.{Fault}
+use Rattle.message.specs.declared.ReadFault.{ReadFault}
 use Rattle.protocol.specs.declared.TransactionId.{TransactionId}
 use Rattle.protocol.specs.declared.Nonce.{Nonce}
 use Rattle.protocol.specs.declared.RegistrarInput.{RegistrarInput}
@@ -28,11 +28,11 @@ use Rattle.protocol.specs.Message.{Fields, fieldsOf}
 use Rattle.protocol.specs.Outgoing.{errorOut, silent}
 use Rattle.protocol.specs.Table.{lookup}
 use Rattle.protocol.specs.States.{isAsked, isGranted, mayClose, hasSent}
-use Rattle.protocol.specs.Refusals.{bitOf, check, Check, stop, pass, readRefusal, noFault}
+use Rattle.protocol.specs.Refusals.{bitOf, lowestRow, LowestRow, stop, pass, readRefusal, noFault}
 use Rattle.protocol.specs.RegistrarRows.{registrarRows, confirms, oneEntry}
 use Rattle.protocol.specs.Registrar.{hostStep, registrarIssue, registrarRefuse, registrarLapse, registrarClose, registrarChecked, registrarMessage, registrarFields, registrarRead}
 use Rattle.protocol.specs.EndEntity.{endEntityMessage, endEntityRead}
-use Rattle.protocol.specs.HostRules.{refusal, HostRule, HostRules}
+use Rattle.protocol.specs.HostRules.{hostRefusal, HostRule, HostRules}
 use Rattle.protocol.specs.MessageRules.{errorMessage, ErrorRule, UnreadRule, Corners, Tables}
 use Rattle.protocol.proofs.Tests.{none-some, some-some, true-false, T→true, true→T, cases, other-than}
 use Rattle.protocol.proofs.RegistrarStates.{not-asked, not-granted, MayClose, may-close, not-close}
@@ -42,7 +42,7 @@ use Rattle.protocol.proofs.ConfirmationMoves.{message-at}
 -- ## Host steps
 
 module _ (t : TransactionTable) (i : TransactionId) (Allowed : TransactionState → Type 0) (ok : TransactionState → Bool) (yes-it : (s : TransactionState) → Allowed s → ok s ≡ true) (no-it : (s : TransactionState) → (Allowed s → ⊥) → ok s ≡ false) (next : Transaction → RegistrarAnswer) where
-  unknown-at : (f : Option Transaction) → f ≡ none → hostStep f t (λ r. ok (r .state)) next ≡ refusal 30 t
+  unknown-at : (f : Option Transaction) → f ≡ none → hostStep f t (λ r. ok (r .state)) next ≡ hostRefusal 30 t
   unfolding bitOf
   unknown-at none e = refl
   unknown-at (some r) e = none-some (sym e)
@@ -51,7 +51,7 @@ module _ (t : TransactionTable) (i : TransactionId) (Allowed : TransactionState 
   done-at none r e a = none-some e
   done-at (some s) r e a = rw (some-some e, yes-it (r .state) a)
 
-  else-at : (f : Option Transaction) (r : Transaction) → f ≡ some r → (Allowed (r .state) → ⊥) → hostStep f t (λ r. ok (r .state)) next ≡ refusal 31 t
+  else-at : (f : Option Transaction) (r : Transaction) → f ≡ some r → (Allowed (r .state) → ⊥) → hostStep f t (λ r. ok (r .state)) next ≡ hostRefusal 31 t
   unfolding bitOf
   else-at none r e a = none-some e
   else-at (some s) r e a = rw (some-some e, no-it (r .state) a)
@@ -86,7 +86,7 @@ module _ (t : TransactionTable) (d : RegistrarInput) (m : Fields) where
   not-refused : (p : ℕ) (s : Bool) (o : Outgoing) (u : TransactionTable) → Rule (record { outcome = outcome.Done; fault = noFault; slot = record { 0 = p }; sends = s; outgoing = o; table = u })
   not-refused p s o u = record { from6 = λ k b e. done-refused k b e; below6 = λ k b e. done-refused k b e }
 
-  error-checked : (f : Option Transaction) (c : Check) → Rule (registrarChecked c f t d m)
+  error-checked : (f : Option Transaction) (c : LowestRow) → Rule (registrarChecked c f t d m)
   unfolding registrarChecked
   error-checked f (stop k) =
       record {
@@ -99,22 +99,22 @@ module _ (t : TransactionTable) (d : RegistrarInput) (m : Fields) where
 -- a message that reads
 pub error-rule : (t : TransactionTable) (d : RegistrarInput) (bytes : List ℕ) (m : Message) → readingOf bytes ≡ read.Clean m → ErrorRule (asId (fieldsOf bytes m .id)) (d .nonce) (asNonce (fieldsOf bytes m .senderNonce)) (registrarMessage t d bytes)
 unfolding registrarFields
-error-rule t d bytes m e = rw (message-at t d bytes m e) (error-checked t d (fieldsOf bytes m) (lookup (t .transactions) (asId (fieldsOf bytes m .id))) (check (registrarRows (t .transactions) (lookup (t .transactions) (asId (fieldsOf bytes m .id))) (d .verdict) (fieldsOf bytes m))))
+error-rule t d bytes m e = rw (message-at t d bytes m e) (error-checked t d (fieldsOf bytes m) (lookup (t .transactions) (asId (fieldsOf bytes m .id))) (lowestRow (registrarRows (t .transactions) (lookup (t .transactions) (asId (fieldsOf bytes m .id))) (d .verdict) (fieldsOf bytes m))))
 
 -- one that does not read sends nothing
-pub unread-silent : (t : TransactionTable) (d : RegistrarInput) (bytes : List ℕ) (f : Fault) → readingOf bytes ≡ read.Refused f → registrarMessage t d bytes .sends ≡ false
+pub unread-silent : (t : TransactionTable) (d : RegistrarInput) (bytes : List ℕ) (f : ReadFault) → readingOf bytes ≡ read.Refused f → registrarMessage t d bytes .sends ≡ false
 unfolding registrarMessage registrarRead
 unread-silent t d bytes f e = rw e
 
-unread-at : (f : Fault) → UnreadRule f (outcome.Refused (readRefusal f) (bitOf (readRefusal f) false))
+unread-at : (f : ReadFault) → UnreadRule f (outcome.Refused (readRefusal f) (bitOf (readRefusal f) false))
 unfolding bitOf
 unread-at f = record { one = λ e. rw e; two = λ d. rw (other-than (f .number) 1 d _ refl) }
 
-pub registrar-unread : (t : TransactionTable) (d : RegistrarInput) (bytes : List ℕ) (f : Fault) → readingOf bytes ≡ read.Refused f → UnreadRule f (registrarMessage t d bytes .outcome)
+pub registrar-unread : (t : TransactionTable) (d : RegistrarInput) (bytes : List ℕ) (f : ReadFault) → readingOf bytes ≡ read.Refused f → UnreadRule f (registrarMessage t d bytes .outcome)
 unfolding registrarMessage registrarRead
 registrar-unread t d bytes f e = rw e (unread-at f)
 
-pub end-entity-unread : (x : Enrolment) (d : EndEntityInput) (bytes : List ℕ) (f : Fault) → readingOf bytes ≡ read.Refused f → UnreadRule f (endEntityMessage x d bytes .outcome)
+pub end-entity-unread : (x : Enrolment) (d : EndEntityInput) (bytes : List ℕ) (f : ReadFault) → readingOf bytes ≡ read.Refused f → UnreadRule f (endEntityMessage x d bytes .outcome)
 unfolding endEntityMessage endEntityRead
 end-entity-unread x d bytes f e = rw e (unread-at f)
 

@@ -14,7 +14,7 @@ use Rattle.protocol.specs.declared.Nonce.{Nonce}
 use Rattle.protocol.specs.declared.Hash.{Hash}
 use Rattle.protocol.specs.Bytes.{sameBytes, sameId, sameNonce, sameHash, isId, isNonce}
 use Rattle.protocol.specs.Message.{isEnrolmentKind}
-use Rattle.protocol.specs.Refusals.{Row, pass, check, stop}
+use Rattle.protocol.specs.Refusals.{Row, pass, lowestRow, stop}
 use Rattle.protocol.specs.Request.{IsRequest}
 
 pub true-false : {A : Type 0} → true ≡ false → A
@@ -85,14 +85,14 @@ abbrev pub appliesAt : ℕ → List Row → Bool
 appliesAt n [] = false
 appliesAt n (r ∷ rs) = cond (eqb n (r .number)) (r .applies) (appliesAt n rs)
 
-passes-at : (n : ℕ) (r : Row) (rs : List Row) → (check rs ≡ pass → appliesAt n rs ≡ false) → (a : Bool) → r .applies ≡ a → (b : Bool) → cond a (stop (r .number)) (check rs) ≡ pass → cond b (r .applies) (appliesAt n rs) ≡ false
+passes-at : (n : ℕ) (r : Row) (rs : List Row) → (lowestRow rs ≡ pass → appliesAt n rs ≡ false) → (a : Bool) → r .applies ≡ a → (b : Bool) → cond a (stop (r .number)) (lowestRow rs) ≡ pass → cond b (r .applies) (appliesAt n rs) ≡ false
 passes-at n r rs ih true q b e = let z : _≡_ {A = ℕ} 0 1 = cc in absurd (omega arith)
 passes-at n r rs ih false q true e = q
 passes-at n r rs ih false q false e = ih e
 
 -- where no row stops, the row of the number does not apply
-pub passes : (n : ℕ) (rs : List Row) → check rs ≡ pass → appliesAt n rs ≡ false
-unfolding check
+pub passes : (n : ℕ) (rs : List Row) → lowestRow rs ≡ pass → appliesAt n rs ≡ false
+unfolding lowestRow
 passes n [] e = refl
 passes n (r ∷ rs) e = passes-at n r rs (λ p. passes n rs p) (r .applies) refl (eqb n (r .number)) e
 

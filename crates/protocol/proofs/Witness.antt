@@ -17,8 +17,8 @@ use Rattle.protocol.specs.declared.TransactionState.the-variants as at-r
 use Rattle.protocol.specs.Bytes.{sameNonce, sameId, sameBytes}
 use Rattle.protocol.specs.Message.{Fields}
 use Rattle.protocol.specs.Outgoing.{silent}
-use Rattle.protocol.specs.Table.{lookup, replace, slotOf, freeSlot, hasRoom, put, emptyTable}
-use Rattle.protocol.specs.Refusals.{check}
+use Rattle.protocol.specs.Table.{lookup, replace, slotOf, freeSlot, hasFreeSlot, put, emptyTable}
+use Rattle.protocol.specs.Refusals.{lowestRow}
 use Rattle.protocol.specs.RegistrarRows.{registrarRows}
 use Rattle.protocol.specs.Registrar.{registrarFields, registrarChecked, registrarIssue}
 use Rattle.protocol.specs.EndEntityRows.{endEntityRows}
@@ -110,7 +110,7 @@ module _ (accept : Bool) (bytes : List ℕ) (f : Fields) (r : ReadsAs bytes f) w
       }
 
 accepted-fair : Fair (end true acceptBytes acceptFields accept-reads .past)
-unfolding step registrarFields registrarChecked registrarRows check lookup replace slotOf freeSlot hasRoom put emptyTable registrarIssue endEntityStart endEntityChecked endEntityRows sameBytes silent
+unfolding step registrarFields registrarChecked registrarRows lowestRow lookup replace slotOf freeSlot hasFreeSlot put emptyTable registrarIssue endEntityStart endEntityChecked endEntityRows sameBytes silent
 accepted-fair = (
   one _ _ (issued-by pkiConfBytes pkiConfFields pkiconf-reads _ (record { kind = refl; id = refl; senderNonce = refl; recipNonce = refl; status = λ t. true-false (sym t); hash = λ e. absurd (omega arith) }) _ _ (inl (refl, refl))) tt tt,
   (
@@ -129,11 +129,11 @@ accepted-fair = (
 )
 
 accepted-ends : EndsIn (enrols true acceptBytes) at-board.Sure at-registrar.Confirmed
-unfolding boardSays registrarSays step registrarFields registrarChecked registrarRows check lookup replace slotOf freeSlot hasRoom put emptyTable registrarIssue endEntityStart endEntityChecked endEntityRows sameBytes silent
+unfolding boardSays registrarSays step registrarFields registrarChecked registrarRows lowestRow lookup replace slotOf freeSlot hasFreeSlot put emptyTable registrarIssue endEntityStart endEntityChecked endEntityRows sameBytes silent
 accepted-ends = ends true acceptBytes acceptFields accept-reads at-board.Sure at-registrar.Confirmed accepted-fair refl refl
 
 declined-fair : Fair (end false declineBytes declineFields decline-reads .past)
-unfolding step registrarFields registrarChecked registrarRows check lookup replace slotOf freeSlot hasRoom put emptyTable registrarIssue endEntityStart endEntityChecked endEntityRows sameBytes silent
+unfolding step registrarFields registrarChecked registrarRows lowestRow lookup replace slotOf freeSlot hasFreeSlot put emptyTable registrarIssue endEntityStart endEntityChecked endEntityRows sameBytes silent
 declined-fair = (
   one _ _ (issued-by pkiConfBytes pkiConfFields pkiconf-reads _ (record { kind = refl; id = refl; senderNonce = refl; recipNonce = refl; status = λ t. true-false (sym t); hash = λ e. absurd (omega arith) }) _ _ (inl (refl, refl))) tt tt,
   (
@@ -152,7 +152,7 @@ declined-fair = (
 )
 
 declined-ends : EndsIn (enrols false declineBytes) at-board.Declined at-registrar.Declined
-unfolding boardSays registrarSays step registrarFields registrarChecked registrarRows check lookup replace slotOf freeSlot hasRoom put emptyTable registrarIssue endEntityStart endEntityChecked endEntityRows sameBytes silent
+unfolding boardSays registrarSays step registrarFields registrarChecked registrarRows lowestRow lookup replace slotOf freeSlot hasFreeSlot put emptyTable registrarIssue endEntityStart endEntityChecked endEntityRows sameBytes silent
 declined-ends = ends false declineBytes declineFields decline-reads at-board.Declined at-registrar.Declined declined-fair refl refl
 
 pub witnesses : Witnesses

@@ -17,7 +17,7 @@ use Rattle.protocol.specs.declared.Enrolment.{Enrolment}
 use Rattle.protocol.specs.declared.Outgoing.{Outgoing}
 use Rattle.protocol.specs.declared.EndEntityAnswer.{EndEntityAnswer}
 use Rattle.protocol.specs.Message.{Fields, partOf, optionalStatus, fieldsOf, optionalPart, isPresent}
-use Rattle.protocol.specs.Refusals.{check}
+use Rattle.protocol.specs.Refusals.{lowestRow}
 use Rattle.protocol.specs.Registrar.{registrarFields, registrarMessage}
 use Rattle.protocol.specs.EndEntityRows.{endEntityRows}
 use Rattle.protocol.specs.EndEntity.{endEntityChecked, endEntityMessage, endEntityRead}
@@ -30,7 +30,7 @@ use Rattle.protocol.proofs.WitnessReadings.{ReadsAs}
 -- ## A run over fields
 
 abbrev endEntityFields : Enrolment → EndEntityInput → Fields → EndEntityAnswer
-endEntityFields x d m = endEntityChecked (check (endEntityRows x (d .good) m)) x d m
+endEntityFields x d m = endEntityChecked (lowestRow (endEntityRows x (d .good) m)) x d m
 
 -- a call, with the fields of its message
 abbrev pub stepBy : World → Call → Fields → World
@@ -125,26 +125,26 @@ module _ (bytes : List ℕ) (f : Fields) (r : ReadsAs bytes f) (o : Outgoing) (c
   there : (s : Span) (x : List ℕ) → optionalPart bytes s ≡ some x → HasPart bytes s x
   there s x e = part-of bytes s x (isPresent s) refl e
 
-  recip-there : optionalPart bytes (m .fields .«recip_nonce») ≡ f .recipNonce → (o .«has_recip_nonce» ≡ true → HasPart bytes (m .fields .«recip_nonce») (o .«recip_nonce» .bytes)) × (o .«has_recip_nonce» ≡ false → m .fields .«recip_nonce» .start .0 ≡ 0)
+  recip-there : optionalPart bytes (m .header .«recip_nonce») ≡ f .recipNonce → (o .«has_recip_nonce» ≡ true → HasPart bytes (m .header .«recip_nonce») (o .«recip_nonce» .bytes)) × (o .«has_recip_nonce» ≡ false → m .header .«recip_nonce» .start .0 ≡ 0)
   recip-there e = (
-    λ h. there (m .fields .«recip_nonce») (o .«recip_nonce» .bytes) (e ∙ c .recipNonce ∙ ap (λ (b : Bool). recipOf b (o .«recip_nonce» .bytes)) h),
-    λ h. absent-part bytes (m .fields .«recip_nonce») (eqb (m .fields .«recip_nonce» .start .0) 0) refl (e ∙ c .recipNonce ∙ ap (λ (b : Bool). recipOf b (o .«recip_nonce» .bytes)) h),
+    λ h. there (m .header .«recip_nonce») (o .«recip_nonce» .bytes) (e ∙ c .recipNonce ∙ ap (λ (b : Bool). recipOf b (o .«recip_nonce» .bytes)) h),
+    λ h. absent-part bytes (m .header .«recip_nonce») (eqb (m .header .«recip_nonce» .start .0) 0) refl (e ∙ c .recipNonce ∙ ap (λ (b : Bool). recipOf b (o .«recip_nonce» .bytes)) h),
   )
 
   status-there :
-      optionalStatus (m .contents .entry .«has_status») (m .contents .entry .status) ≡ f .status → m .contents .kind ≡ f .kind →
+      optionalStatus (m .body .entry .«has_status») (m .body .entry .status) ≡ f .status → m .body .kind ≡ f .kind →
       (f .status ≡ some (o .status)) ⊎ ((f .kind ≡ 24) × (f .status ≡ none) × (o .status ≡ 0)) →
-      ((m .contents .entry .«has_status» ≡ true) × (m .contents .entry .status ≡ o .status)) ⊎ ((m .contents .kind ≡ 24) × (m .contents .entry .«has_status» ≡ false) × (o .status ≡ 0))
-  status-there e k (inl g) = inl (status-some (m .contents .entry .«has_status») (m .contents .entry .status) (o .status) (e ∙ g))
-  status-there e k (inr g) = inr (k ∙ g .0, status-none (m .contents .entry .«has_status») (m .contents .entry .status) (e ∙ g .1), g .2)
+      ((m .body .entry .«has_status» ≡ true) × (m .body .entry .status ≡ o .status)) ⊎ ((m .body .kind ≡ 24) × (m .body .entry .«has_status» ≡ false) × (o .status ≡ 0))
+  status-there e k (inl g) = inl (status-some (m .body .entry .«has_status») (m .body .entry .status) (o .status) (e ∙ g))
+  status-there e k (inr g) = inr (k ∙ g .0, status-none (m .body .entry .«has_status») (m .body .entry .status) (e ∙ g .1), g .2)
 
   carries : Carries bytes m o
   unfolding fieldsOf
   carries =
       record {
         kind = field (λ (z : Fields). z .kind) ∙ c .kind;
-        id = there (m .fields .«transaction_id») (o .id .bytes) (field (λ (z : Fields). z .id) ∙ c .id);
-        senderNonce = there (m .fields .«sender_nonce») (o .«sender_nonce» .bytes) (field (λ (z : Fields). z .senderNonce) ∙ c .senderNonce);
+        id = there (m .header .«transaction_id») (o .id .bytes) (field (λ (z : Fields). z .id) ∙ c .id);
+        senderNonce = there (m .header .«sender_nonce») (o .«sender_nonce» .bytes) (field (λ (z : Fields). z .senderNonce) ∙ c .senderNonce);
         recipNonce = recip-there (field (λ (z : Fields). z .recipNonce)) .0;
         noRecipNonce = recip-there (field (λ (z : Fields). z .recipNonce)) .1;
         status = λ h _. status-there (field (λ (z : Fields). z .status)) (field (λ (z : Fields). z .kind)) (c .status h);

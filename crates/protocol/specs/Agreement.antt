@@ -48,16 +48,16 @@ HasPart bytes s x = (s .start .0 ≢ 0) × PartIs bytes s x
 
 pub record Carries (bytes : List ℕ) (m : Message) (o : Outgoing) : Type 0 where
   -- "the same kind, id and nonces,"
-  pub kind : m .contents .kind ≡ o .kind
-  pub id : HasPart bytes (m .fields .«transaction_id») (o .id .bytes)
-  pub senderNonce : HasPart bytes (m .fields .«sender_nonce») (o .«sender_nonce» .bytes)
-  pub recipNonce : o .«has_recip_nonce» ≡ true → HasPart bytes (m .fields .«recip_nonce») (o .«recip_nonce» .bytes)
-  pub noRecipNonce : o .«has_recip_nonce» ≡ false → m .fields .«recip_nonce» .start .0 ≡ 0
+  pub kind : m .body .kind ≡ o .kind
+  pub id : HasPart bytes (m .header .«transaction_id») (o .id .bytes)
+  pub senderNonce : HasPart bytes (m .header .«sender_nonce») (o .«sender_nonce» .bytes)
+  pub recipNonce : o .«has_recip_nonce» ≡ true → HasPart bytes (m .header .«recip_nonce») (o .«recip_nonce» .bytes)
+  pub noRecipNonce : o .«has_recip_nonce» ≡ false → m .header .«recip_nonce» .start .0 ≡ 0
   -- "the same status where the order has one (in a certConf none counts as 0),": a message that is no error (23) has a status
   -- only where it has one entry
-  pub status : o .«has_status» ≡ true → (m .contents .kind ≡ 23) ⊎ (m .contents .entries ≡ 1) → ((m .contents .entry .«has_status» ≡ true) × (m .contents .entry .status ≡ o .status)) ⊎ ((m .contents .kind ≡ 24) × (m .contents .entry .«has_status» ≡ false) × (o .status ≡ 0))
+  pub status : o .«has_status» ≡ true → (m .body .kind ≡ 23) ⊎ (m .body .entries ≡ 1) → ((m .body .entry .«has_status» ≡ true) × (m .body .entry .status ≡ o .status)) ⊎ ((m .body .kind ≡ 24) × (m .body .entry .«has_status» ≡ false) × (o .status ≡ 0))
   -- "and in a certConf the same hash."
-  pub hash : m .contents .kind ≡ 24 → m .contents .entries ≡ 1 → PartIs bytes (m .contents .entry .«cert_hash») (o .hash .bytes)
+  pub hash : m .body .kind ≡ 24 → m .body .entries ≡ 1 → PartIs bytes (m .body .entry .«cert_hash») (o .hash .bytes)
 
 -- the bytes, as they read, are a message issued at the end; nothing is asked of bytes that do not read
 abbrev pub IssuedReading : End → List ℕ → Reading → List Event → Type 0

@@ -35,36 +35,36 @@ Sixteen bytes s x = (s .start .0 ≢ 0) × (take (s .len) (drop (s .start .0) by
 pub record Matches (t : TransactionTable) (d : RegistrarInput) (bytes : List ℕ) (m : Message) (r : Transaction) : Type 0 where
   -- "it reads cleanly with one entry,"
   pub reads : readingOf bytes ≡ read.Clean m
-  pub kind : m .contents .kind ≡ 24
-  pub entries : m .contents .entries ≡ 1
+  pub kind : m .body .kind ≡ 24
+  pub entries : m .body .entries ≡ 1
   -- "its protection is there with its algorithm named and was found good for that board,"
   pub protection : m .protection .start .0 ≢ 0
-  pub algorithm : m .fields .«protection_alg» .start .0 ≢ 0
+  pub algorithm : m .header .«protection_alg» .start .0 ≢ 0
   pub good : d .verdict ≡ Good (r .board)
   -- "and its version,": 2 or 3, and with a hashAlg 3
-  pub version : (m .fields .version ≡ 2) ⊎ (m .fields .version ≡ 3)
-  pub hashAlg : m .contents .entry .«hash_alg» .start .0 ≢ 0 → m .fields .version ≡ 3
+  pub version : (m .header .version ≡ 2) ⊎ (m .header .version ≡ 3)
+  pub hashAlg : m .body .entry .«hash_alg» .start .0 ≢ 0 → m .header .version ≡ 3
   -- "transaction id,": of 16 bytes, and r is the transaction with it
   pub id : TransactionId
-  pub hasId : Sixteen bytes (m .fields .«transaction_id») (id .bytes)
+  pub hasId : Sixteen bytes (m .header .«transaction_id») (id .bytes)
   pub holds : lookup (t .transactions) id ≡ some r
   -- "nonces,": a senderNonce of 16 bytes, and as recipNonce the nonce that the transaction's response sent
   pub nonce : Nonce
-  pub senderNonce : Sixteen bytes (m .fields .«sender_nonce») (nonce .bytes)
-  pub recipPresent : m .fields .«recip_nonce» .start .0 ≢ 0
-  pub recipNonce : take (m .fields .«recip_nonce» .len) (drop (m .fields .«recip_nonce» .start .0) bytes) ≡ r .sent .bytes
+  pub senderNonce : Sixteen bytes (m .header .«sender_nonce») (nonce .bytes)
+  pub recipPresent : m .header .«recip_nonce» .start .0 ≢ 0
+  pub recipNonce : take (m .header .«recip_nonce» .len) (drop (m .header .«recip_nonce» .start .0) bytes) ≡ r .sent .bytes
   -- "request number,"
-  pub request : m .contents .entry .number ≡ 0
+  pub request : m .body .entry .number ≡ 0
   -- "certificate hash,"
-  pub hash : take (m .contents .entry .«cert_hash» .len) (drop (m .contents .entry .«cert_hash» .start .0) bytes) ≡ r .hash .bytes
+  pub hash : take (m .body .entry .«cert_hash» .len) (drop (m .body .entry .«cert_hash» .start .0) bytes) ≡ r .hash .bytes
   -- "status [...] all match our rules": none, 0 or 2
-  pub status : m .contents .entry .«has_status» ≡ true → (m .contents .entry .status ≡ 0) ⊎ (m .contents .entry .status ≡ 2)
+  pub status : m .body .entry .«has_status» ≡ true → (m .body .entry .status ≡ 0) ⊎ (m .body .entry .status ≡ 2)
 
 -- "no status info or status 0 gives Confirmed, 2 gives Declined"
 abbrev pub LeadsTo : Message → TransactionState → Type 0
 LeadsTo m s =
-    ((s ≡ Confirmed) × ((m .contents .entry .«has_status» ≡ false) ⊎ (m .contents .entry .status ≡ 0)))
-    ⊎ ((s ≡ Declined) × (m .contents .entry .«has_status» ≡ true) × (m .contents .entry .status ≡ 2))
+    ((s ≡ Confirmed) × ((m .body .entry .«has_status» ≡ false) ⊎ (m .body .entry .status ≡ 0)))
+    ⊎ ((s ≡ Declined) × (m .body .entry .«has_status» ≡ true) × (m .body .entry .status ≡ 2))
 
 -- "and the record's state": it moves at Granted;
 pub record Moving (t : TransactionTable) (d : RegistrarInput) (bytes : List ℕ) (m : Message) (r : Transaction) : Type 0 where
@@ -80,7 +80,7 @@ pub record Repeating (t : TransactionTable) (d : RegistrarInput) (bytes : List �
 -- a step with a confirmation that ended so
 pub record Confirms (t : TransactionTable) (d : RegistrarInput) (bytes : List ℕ) (m : Message) (o : Outcome) : Type 0 where
   pub reads : readingOf bytes ≡ read.Clean m
-  pub kind : m .contents .kind ≡ 24
+  pub kind : m .body .kind ≡ 24
   pub ends : registrarMessage t d bytes .outcome ≡ o
 
 -- pkiconf: the id, the fresh nonce, and as recipNonce the senderNonce of the message answered

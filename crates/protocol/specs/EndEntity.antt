@@ -4,7 +4,7 @@ use mathlib.Core.List.{List}
 use mathlib.Core.Bool.{Bool, true, false, cond, _||_}
 use lib.Dec.{eqb}
 use Rattle.message.specs.Read.{readingOf}
-use Rattle.message.specs.declared.Fault.{Fault}
+use Rattle.message.specs.declared.ReadFault.{ReadFault}
 use Rattle.message.specs.declared.Reading.{Reading}
 use Rattle.message.specs.declared.Reading.the-variants as read
 use Rattle.protocol.specs.declared.TransactionId.{TransactionId}
@@ -19,8 +19,8 @@ use Rattle.protocol.specs.declared.Outcome.the-variants as outcome
 use Rattle.protocol.specs.Bytes.{noNonce, noHash, noId, asNonce}
 use Rattle.protocol.specs.Message.{isEnrolmentKind, Fields, statusOr0, pkiConf, errorKind, fieldsOf}
 use Rattle.protocol.specs.Outgoing.{silent, requestOut, certConfOut}
-use Rattle.protocol.specs.States.{decided, decision, assured, broken, isWaiting, isConfirming}
-use Rattle.protocol.specs.Refusals.{bitOf, Check, stop, pass, readRefusal, check, noFault}
+use Rattle.protocol.specs.States.{decided, decision, assured, brokenState, isWaiting, isConfirming}
+use Rattle.protocol.specs.Refusals.{bitOf, LowestRow, stop, pass, readRefusal, lowestRow, noFault}
 use Rattle.protocol.specs.EndEntityRows.{endEntityRows}
 
 -- ## Answers
@@ -30,7 +30,7 @@ abbrev pub enrolmentRefused : ℕ → Enrolment → EndEntityAnswer
 enrolmentRefused k x = record { outcome = outcome.Refused k (bitOf k false); fault = noFault; sends = false; outgoing = silent; enrolment = x }
 
 -- the bytes do not read: the reader's refusal, with its fault
-abbrev pub enrolmentUnread : Fault → Enrolment → EndEntityAnswer
+abbrev pub enrolmentUnread : ReadFault → Enrolment → EndEntityAnswer
 enrolmentUnread f x = record { outcome = outcome.Refused (readRefusal f) (bitOf (readRefusal f) false); fault = f; sends = false; outgoing = silent; enrolment = x }
 
 abbrev pub enrolmentMoved : Enrolment → EndEntityAnswer
@@ -76,17 +76,17 @@ confirming x accept h n a =
 abbrev pub responseTaken : Enrolment → EndEntityInput → Fields → EndEntityAnswer
 responseTaken x d m = cond (eqb (statusOr0 (m .status)) 2) (enrolmentMoved (inState x Failed)) (confirming x (d .accept) (d .hash) (d .nonce) (asNonce (m .senderNonce)))
 
-unfoldable pub endEntityChecked : Check → Enrolment → EndEntityInput → Fields → EndEntityAnswer
+unfoldable pub endEntityChecked : LowestRow → Enrolment → EndEntityInput → Fields → EndEntityAnswer
 endEntityChecked (stop k) x d m = enrolmentRefused k (afterRefusal k m x)
 endEntityChecked pass x d m =
     cond (eqb (m .kind) pkiConf)
     (enrolmentMoved (inState x (assured (x .state))))
-    (cond (eqb (m .kind) errorKind) (enrolmentMoved (inState x (broken (x .state)))) (responseTaken x d m))
+    (cond (eqb (m .kind) errorKind) (enrolmentMoved (inState x (brokenState (x .state)))) (responseTaken x d m))
 
 -- "The reading is taken apart; a refusal ends the step at once"
 unfoldable pub endEntityRead : Reading → Enrolment → EndEntityInput → List ℕ → EndEntityAnswer
 endEntityRead (read.Refused f) x d bytes = enrolmentUnread f x
-endEntityRead (read.Clean m) x d bytes = endEntityChecked (check (endEntityRows x (d .good) (fieldsOf bytes m))) x d (fieldsOf bytes m)
+endEntityRead (read.Clean m) x d bytes = endEntityChecked (lowestRow (endEntityRows x (d .good) (fieldsOf bytes m))) x d (fieldsOf bytes m)
 
 -- A message at an end entity.
 unfoldable pub endEntityMessage : Enrolment → EndEntityInput → (bytes : List ℕ) → EndEntityAnswer
@@ -95,4 +95,4 @@ endEntityMessage x d bytes = endEntityRead (readingOf bytes) x d bytes
 -- ## Time out: the same as an error; "the rest is ... (time out: 31)"
 
 unfoldable pub endEntityTimeOut : Enrolment → EndEntityAnswer
-endEntityTimeOut x = cond (isWaiting (x .state) || isConfirming (x .state)) (enrolmentMoved (inState x (broken (x .state)))) (enrolmentRefused 31 x)
+endEntityTimeOut x = cond (isWaiting (x .state) || isConfirming (x .state)) (enrolmentMoved (inState x (brokenState (x .state)))) (enrolmentRefused 31 x)

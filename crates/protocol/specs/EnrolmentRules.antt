@@ -27,40 +27,40 @@ use Rattle.protocol.specs.Request.{IsRequest}
 -- 3 to 7, 12 and 14: what every message must have
 pub record Heard (x : Enrolment) (d : EndEntityInput) (bytes : List ℕ) (m : Message) : Type 0 where
   pub reads : readingOf bytes ≡ read.Clean m
-  pub version : (m .fields .version ≡ 2) ⊎ (m .fields .version ≡ 3)
-  pub hasId : Sixteen bytes (m .fields .«transaction_id») (x .id .bytes)
+  pub version : (m .header .version ≡ 2) ⊎ (m .header .version ≡ 3)
+  pub hasId : Sixteen bytes (m .header .«transaction_id») (x .id .bytes)
   pub nonce : Nonce
-  pub senderNonce : Sixteen bytes (m .fields .«sender_nonce») (nonce .bytes)
+  pub senderNonce : Sixteen bytes (m .header .«sender_nonce») (nonce .bytes)
   pub protection : m .protection .start .0 ≢ 0
-  pub algorithm : m .fields .«protection_alg» .start .0 ≢ 0
+  pub algorithm : m .header .«protection_alg» .start .0 ≢ 0
   pub good : d .good ≡ true
-  pub recipPresent : m .fields .«recip_nonce» .start .0 ≢ 0
-  pub recipNonce : take (m .fields .«recip_nonce» .len) (drop (m .fields .«recip_nonce» .start .0) bytes) ≡ x .last .bytes
+  pub recipPresent : m .header .«recip_nonce» .start .0 ≢ 0
+  pub recipNonce : take (m .header .«recip_nonce» .len) (drop (m .header .«recip_nonce» .start .0) bytes) ≡ x .last .bytes
 
 -- the status in the message; one that is left out counts as 0
 abbrev pub StatusIs : Message → ℕ → Type 0
-StatusIs m s = ((m .contents .entry .«has_status» ≡ true) × (m .contents .entry .status ≡ s)) ⊎ ((m .contents .entry .«has_status» ≡ false) × (s ≡ 0))
+StatusIs m s = ((m .body .entry .«has_status» ≡ true) × (m .body .entry .status ≡ s)) ⊎ ((m .body .entry .«has_status» ≡ false) × (s ≡ 0))
 
 -- pkiconf, where it is awaited
 pub record Acknowledges (x : Enrolment) (m : Message) : Type 0 where
-  pub kind : m .contents .kind ≡ 19
+  pub kind : m .body .kind ≡ 19
   pub state : (x .state ≡ Confirming) ⊎ (x .state ≡ Declining)
 
 -- error with status 2, at Asked, Confirming or Declining
 pub record Reports (x : Enrolment) (m : Message) : Type 0 where
-  pub kind : m .contents .kind ≡ 23
+  pub kind : m .body .kind ≡ 23
   pub status : StatusIs m 2
   pub state : (x .state ≡ Asked) ⊎ (x .state ≡ Confirming) ⊎ (x .state ≡ Declining)
 
 -- the response to its request, at Asked: one entry of number 0, status 0, 1 or 2, and a plain certificate unless it is 2
 pub record Responds (x : Enrolment) (m : Message) (s : ℕ) : Type 0 where
-  pub kind : m .contents .kind ≡ responseTo (x .kind)
-  pub entries : m .contents .entries ≡ 1
-  pub request : m .contents .entry .number ≡ 0
+  pub kind : m .body .kind ≡ responseTo (x .kind)
+  pub entries : m .body .entries ≡ 1
+  pub request : m .body .entry .number ≡ 0
   pub status : StatusIs m s
   pub known : (s ≡ 0) ⊎ (s ≡ 1) ⊎ (s ≡ 2)
   pub state : x .state ≡ Asked
-  pub certificate : s ≢ 2 → m .contents .entry .certificate .start .0 ≢ 0
+  pub certificate : s ≢ 2 → m .body .entry .certificate .start .0 ≢ 0
 
 -- done, with nothing to send, and only the state changed
 abbrev pub becomes : Enrolment → EnrolmentState → EndEntityAnswer

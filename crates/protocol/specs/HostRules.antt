@@ -23,18 +23,18 @@ use Rattle.protocol.specs.Table.{lookup, slotOf, replace}
 use Rattle.protocol.specs.Registrar.{registrarIssue, registrarRefuse, registrarLapse, registrarClose}
 
 -- refused by this number, with no bit and nothing to send, and the table as it was
-abbrev pub refusal : ℕ → TransactionTable → RegistrarAnswer
-refusal n t = record { outcome = outcome.Refused n NoBit; fault = noFault; slot = record { 0 = 0 }; sends = false; outgoing = silent; table = t }
+abbrev pub hostRefusal : ℕ → TransactionTable → RegistrarAnswer
+hostRefusal n t = record { outcome = outcome.Refused n NoBit; fault = noFault; slot = record { 0 = 0 }; sends = false; outgoing = silent; table = t }
 
 -- a host step for the id: 30 "id not in the book", 31 "state doesn't allow it", else this
 pub record HostRule (t : TransactionTable) (i : TransactionId) (Allowed : TransactionState → Type 0) (next : Transaction → RegistrarAnswer) (a : RegistrarAnswer) : Type 0 where
-  pub unknown : lookup (t .transactions) i ≡ none → a ≡ refusal 30 t
+  pub unknown : lookup (t .transactions) i ≡ none → a ≡ hostRefusal 30 t
   pub done : (r : Transaction) → lookup (t .transactions) i ≡ some r → Allowed (r .state) → a ≡ next r
-  pub else : (r : Transaction) → lookup (t .transactions) i ≡ some r → (Allowed (r .state) → ⊥) → a ≡ refusal 31 t
+  pub else : (r : Transaction) → lookup (t .transactions) i ≡ some r → (Allowed (r .state) → ⊥) → a ≡ hostRefusal 31 t
 
 -- ip, cp or kup: the id, the fresh nonce, as recipNonce the last board nonce taken, and the status
-abbrev pub response : ℕ → TransactionId → Nonce → Nonce → ℕ → Outgoing
-response k i n a s =
+abbrev pub responseSent : ℕ → TransactionId → Nonce → Nonce → ℕ → Outgoing
+responseSent k i n a s =
     record {
       kind = k;
       id = i;
@@ -72,9 +72,9 @@ nothing =
 
 pub record HostRules (t : TransactionTable) (i : TransactionId) : Type 0 where
   -- "issue, Asked to Granted, with hash and nonce, order ip, cp or kup [...] with status 0;"
-  pub issue : (n : Nonce) (h : Hash) → HostRule t i (λ s. s ≡ Asked) (λ r. answering t i (record { id = r .id; board = r .board; kind = r .kind; taken = r .taken; sent = n; hash = h; state = Granted }) (response (responseTo (r .kind)) i n (r .taken) 0)) (registrarIssue t i n h)
+  pub issue : (n : Nonce) (h : Hash) → HostRule t i (λ s. s ≡ Asked) (λ r. answering t i (record { id = r .id; board = r .board; kind = r .kind; taken = r .taken; sent = n; hash = h; state = Granted }) (responseSent (responseTo (r .kind)) i n (r .taken) 0)) (registrarIssue t i n h)
   -- "refuse, Asked to Refused, with nonce, the same order with status 2;"
-  pub refuse : (n : Nonce) → HostRule t i (λ s. s ≡ Asked) (λ r. answering t i (record { id = r .id; board = r .board; kind = r .kind; taken = r .taken; sent = n; hash = r .hash; state = Refused }) (response (responseTo (r .kind)) i n (r .taken) 2)) (registrarRefuse t i n)
+  pub refuse : (n : Nonce) → HostRule t i (λ s. s ≡ Asked) (λ r. answering t i (record { id = r .id; board = r .board; kind = r .kind; taken = r .taken; sent = n; hash = r .hash; state = Refused }) (responseSent (responseTo (r .kind)) i n (r .taken) 2)) (registrarRefuse t i n)
   -- "lapse, Granted to Lapsed;"
   pub lapse : HostRule t i (λ s. s ≡ Granted) (λ r. quietly t i (record { id = r .id; board = r .board; kind = r .kind; taken = r .taken; sent = r .sent; hash = r .hash; state = Lapsed })) (registrarLapse t i)
   -- "close, from Confirmed, Declined, Refused or Lapsed to free, as in the empty book."

@@ -71,18 +71,18 @@ optionalStatus false s = none
 unfoldable pub fieldsOf : List ℕ → Message → Fields
 fieldsOf bytes m =
     record {
-      kind = m .contents .kind;
-      version = m .fields .version;
-      id = optionalPart bytes (m .fields .«transaction_id»);
-      senderNonce = optionalPart bytes (m .fields .«sender_nonce»);
-      recipNonce = optionalPart bytes (m .fields .«recip_nonce»);
-      protected = isPresent (m .protection) && isPresent (m .fields .«protection_alg»);
-      entries = m .contents .entries;
-      request = m .contents .entry .number;
-      status = optionalStatus (m .contents .entry .«has_status») (m .contents .entry .status);
-      hash = record { bytes = partOf bytes (m .contents .entry .«cert_hash») };
-      hashAlg = isPresent (m .contents .entry .«hash_alg»);
-      certificate = isPresent (m .contents .entry .certificate);
+      kind = m .body .kind;
+      version = m .header .version;
+      id = optionalPart bytes (m .header .«transaction_id»);
+      senderNonce = optionalPart bytes (m .header .«sender_nonce»);
+      recipNonce = optionalPart bytes (m .header .«recip_nonce»);
+      protected = isPresent (m .protection) && isPresent (m .header .«protection_alg»);
+      entries = m .body .entries;
+      request = m .body .entry .number;
+      status = optionalStatus (m .body .entry .«has_status») (m .body .entry .status);
+      hash = record { bytes = partOf bytes (m .body .entry .«cert_hash») };
+      hashAlg = isPresent (m .body .entry .«hash_alg»);
+      certificate = isPresent (m .body .entry .certificate);
     }
 
 -- a certConf's status: absent status info counts as 0

@@ -5,7 +5,7 @@ use mathlib.Core.Option.{none}
 use mathlib.Core.Path.{_≡_}
 use mathlib.Core.Logic.{_⊎_}
 use lib.ListN.{replicate}
-use Rattle.message.specs.declared.Fault.{Fault}
+use Rattle.message.specs.declared.ReadFault.{ReadFault}
 use Rattle.protocol.specs.declared.TransactionId.{TransactionId}
 use Rattle.protocol.specs.declared.Nonce.{Nonce}
 use Rattle.protocol.specs.declared.Transaction.{Transaction}
@@ -42,7 +42,7 @@ pub record ErrorRule (i : TransactionId) (n a : Nonce) (answer : RegistrarAnswer
   pub below6 : (k : ℕ) (b : FailureInfo) → answer .outcome ≡ outcome.Refused k b → k < 6 → answer .sends ≡ false
 
 -- bytes that do not read are refused by 1 (their length) or 2, both with bit 5
-pub record UnreadRule (f : Fault) (o : Outcome) : Type 0 where
+pub record UnreadRule (f : ReadFault) (o : Outcome) : Type 0 where
   pub one : f .number ≡ 1 → o ≡ outcome.Refused 1 (Bit 5)
   pub two : (f .number ≡ 1 → ⊥) → o ≡ outcome.Refused 2 (Bit 5)
 

@@ -5,7 +5,7 @@ use mathlib.Core.Bool.{Bool, true, not, cond, _||_}
 use mathlib.Core.Option.{Option, none, some}
 use lib.ListN.{length}
 use lib.Dec.{eqb}
-use Rattle.message.specs.declared.Fault.{Fault}
+use Rattle.message.specs.declared.ReadFault.{ReadFault}
 use Rattle.protocol.specs.declared.FailureInfo.{FailureInfo}
 use Rattle.protocol.specs.declared.FailureInfo.the-variants.{NoBit, Bit}
 use Rattle.protocol.specs.Message.{Fields}
@@ -18,14 +18,14 @@ pub record Row : Type 0 where
 abbrev pub row : ℕ → Bool → Row
 row n b = record { number = n; applies = b }
 
-pub data Check : Type 0 where
-  pass : Check
-  stop : ℕ → Check
+pub data LowestRow : Type 0 where
+  pass : LowestRow
+  stop : ℕ → LowestRow
 
 -- "the lowest number that applies is given, and none otherwise": the rows stand in the order of their numbers
-unfoldable pub check : List Row → Check
-check [] = pass
-check (r ∷ rs) = cond (r .applies) (stop (r .number)) (check rs)
+unfoldable pub lowestRow : List Row → LowestRow
+lowestRow [] = pass
+lowestRow (r ∷ rs) = cond (r .applies) (stop (r .number)) (lowestRow rs)
 
 -- ## The bits
 
@@ -76,11 +76,11 @@ bitOf n confirmed = bitIn n (bits confirmed)
 -- ## The reading, and the rows that both ends share
 
 -- what stands in an answer where the message reads, or there is none
-abbrev pub noFault : Fault
+abbrev pub noFault : ReadFault
 noFault = record { number = 0; at = record { 0 = 0 }; rule = 0 }
 
 -- 1: "length 0 or above 16,384"; 2: "not DER or not the grammar"
-abbrev pub readRefusal : Fault → ℕ
+abbrev pub readRefusal : ReadFault → ℕ
 readRefusal f = cond (eqb (f .number) 1) 1 2
 
 -- a part that is absent or not 16 bytes

@@ -5,7 +5,7 @@ use mathlib.Core.Bool.{Bool, true, false, cond}
 use mathlib.Core.Option.{Option, none, some}
 use lib.Dec.{leb}
 use Rattle.message.specs.Read.{readingOf}
-use Rattle.message.specs.declared.Fault.{Fault}
+use Rattle.message.specs.declared.ReadFault.{ReadFault}
 use Rattle.message.specs.declared.Reading.{Reading}
 use Rattle.message.specs.declared.Reading.the-variants as read
 use Rattle.protocol.specs.declared.Board.{Board}
@@ -27,7 +27,7 @@ use Rattle.protocol.specs.Message.{Fields, statusOr0, fieldsOf, response
 use Rattle.protocol.specs.Outgoing.{silent, errorOut, pkiConfOut, responseOut}
 use Rattle.protocol.specs.Table.{freeSlot, put, slotOf, replace, lookup, freeTransaction}
 use Rattle.protocol.specs.States.{isConfirmed, isGranted, settledState, isAsked, mayClose}
-use Rattle.protocol.specs.Refusals.{bitOf, Check, stop, pass, check, readRefusal, noFault}
+use Rattle.protocol.specs.Refusals.{bitOf, LowestRow, stop, pass, lowestRow, readRefusal, noFault}
 use Rattle.protocol.specs.RegistrarRows.{registrarRows}
 
 -- ## Answers
@@ -37,7 +37,7 @@ abbrev pub refusedQuietly : ℕ → TransactionTable → RegistrarAnswer
 refusedQuietly k t = record { outcome = outcome.Refused k (bitOf k false); fault = noFault; slot = record { 0 = 0 }; sends = false; outgoing = silent; table = t }
 
 -- the bytes do not read: the reader's refusal, with its fault
-abbrev pub refusedReading : Fault → TransactionTable → RegistrarAnswer
+abbrev pub refusedReading : ReadFault → TransactionTable → RegistrarAnswer
 refusedReading f t = record { outcome = outcome.Refused (readRefusal f) (bitOf (readRefusal f) false); fault = f; slot = record { 0 = 0 }; sends = false; outgoing = silent; table = t }
 
 -- done at this slot, with nothing to send
@@ -91,7 +91,7 @@ confirmed t r n m =
     (doneSending (slotOf (t .transactions) i) (replace (t .transactions) i (settled r (settledState (statusOr0 (m .status))) a)) (pkiConfOut i n a))
     (record { outcome = outcome.Again; fault = noFault; slot = record { 0 = slotOf (t .transactions) i }; sends = true; outgoing = pkiConfOut i n a; table = t })
 
-unfoldable pub registrarChecked : Check → Option Transaction → TransactionTable → RegistrarInput → Fields → RegistrarAnswer
+unfoldable pub registrarChecked : LowestRow → Option Transaction → TransactionTable → RegistrarInput → Fields → RegistrarAnswer
 registrarChecked (stop k) f t d m = refusedMessage k f t (d .nonce) m
 registrarChecked pass none t d m = opened t (d .verdict) m
 registrarChecked pass (some r) t d m = confirmed t r (d .nonce) m
@@ -99,7 +99,7 @@ registrarChecked pass (some r) t d m = confirmed t r (d .nonce) m
 unfoldable pub registrarFields : TransactionTable → RegistrarInput → Fields → RegistrarAnswer
 registrarFields t d m =
     let f : Option Transaction = lookup (t .transactions) (asId (m .id)) in
-    registrarChecked (check (registrarRows (t .transactions) f (d .verdict) m)) f t d m
+    registrarChecked (lowestRow (registrarRows (t .transactions) f (d .verdict) m)) f t d m
 
 -- "The reading is taken apart; a refusal ends the step at once"
 unfoldable pub registrarRead : Reading → TransactionTable → RegistrarInput → List ℕ → RegistrarAnswer

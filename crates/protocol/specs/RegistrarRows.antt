@@ -9,7 +9,7 @@ use Rattle.protocol.specs.declared.Transaction.{Transaction}
 use Rattle.protocol.specs.declared.Verdict.the-variants.{Bad, Good}
 use Rattle.protocol.specs.Bytes.{present, isNonce, sameHash}
 use Rattle.protocol.specs.Message.{Fields, isEnrolmentKind, certConf, requestNumber, statusOr0}
-use Rattle.protocol.specs.Table.{hasRoom, freeTransaction}
+use Rattle.protocol.specs.Table.{hasFreeSlot, freeTransaction}
 use Rattle.protocol.specs.States.{hasSent, hasHash, settledBy, isGranted}
 use Rattle.protocol.specs.Refusals.{Row, headRows, row}
 
@@ -53,7 +53,7 @@ opensKnown f m = opens m && isKnown f
 
 -- 11: "opening, no free place"
 abbrev pub opensFull : List Transaction → Fields → Bool
-opensFull rs m = opens m && not (hasRoom rs)
+opensFull rs m = opens m && not (hasFreeSlot rs)
 
 -- 12: "certConf, id not in the book"
 abbrev pub confirmsUnknown : Option Transaction → Fields → Bool

@@ -31,16 +31,16 @@ IsRequest k = (k ≡ 0) ⊎ (k ≡ 2) ⊎ (k ≡ 4) ⊎ (k ≡ 7)
 -- the request m, in these bytes, of the board b, can be taken
 pub record Opening (t : TransactionTable) (d : RegistrarInput) (bytes : List ℕ) (m : Message) (b : Board) : Type 0 where
   pub reads : readingOf bytes ≡ read.Clean m
-  pub version : (m .fields .version ≡ 2) ⊎ (m .fields .version ≡ 3)
+  pub version : (m .header .version ≡ 2) ⊎ (m .header .version ≡ 3)
   pub id : TransactionId
-  pub hasId : Sixteen bytes (m .fields .«transaction_id») (id .bytes)
+  pub hasId : Sixteen bytes (m .header .«transaction_id») (id .bytes)
   pub nonce : Nonce
-  pub senderNonce : Sixteen bytes (m .fields .«sender_nonce») (nonce .bytes)
+  pub senderNonce : Sixteen bytes (m .header .«sender_nonce») (nonce .bytes)
   pub protection : m .protection .start .0 ≢ 0
-  pub algorithm : m .fields .«protection_alg» .start .0 ≢ 0
+  pub algorithm : m .header .«protection_alg» .start .0 ≢ 0
   pub good : d .verdict ≡ Good b
-  pub kind : IsRequest (m .contents .kind)
-  pub noRecipNonce : m .fields .«recip_nonce» .start .0 ≡ 0
+  pub kind : IsRequest (m .body .kind)
+  pub noRecipNonce : m .header .«recip_nonce» .start .0 ≡ 0
   -- the id is not in the table, and a slot is free
   pub unknown : lookup (t .transactions) id ≡ none
   pub slot : ℕ
@@ -48,8 +48,8 @@ pub record Opening (t : TransactionTable) (d : RegistrarInput) (bytes : List ℕ
   pub holds : getElem? (t .transactions) slot ≡ some held
   pub free : held .state ≡ Free
   -- one entry, of number 0: not in a p10cr (4)
-  pub entries : m .contents .kind ≢ 4 → m .contents .entries ≡ 1
-  pub request : m .contents .kind ≢ 4 → m .contents .entry .number ≡ 0
+  pub entries : m .body .kind ≢ 4 → m .body .entries ≡ 1
+  pub request : m .body .kind ≢ 4 → m .body .entry .number ≡ 0
 
 -- "Opening: lowest free place becomes Asked for the board the verdict names"; nothing is sent
 pub record Opened (t : TransactionTable) (kind : ℕ) (b : Board) (i : TransactionId) (n : Nonce) (a : RegistrarAnswer) : Type 0 where
@@ -61,5 +61,5 @@ pub record Opened (t : TransactionTable) (kind : ℕ) (b : Board) (i : Transacti
   pub lowest : (p : ℕ) (r : Transaction) → getElem? (t .transactions) p ≡ some r → r .state ≡ Free → a .slot .0 ≤ p
 
 pub record RequestRule (t : TransactionTable) (d : RegistrarInput) (bytes : List ℕ) (m : Message) : Type 0 where
-  pub opens : readingOf bytes ≡ read.Clean m → IsRequest (m .contents .kind) → registrarMessage t d bytes .outcome ≡ outcome.Done → (b : Board) × Opening t d bytes m b
-  pub opened : (b : Board) (c : Opening t d bytes m b) → Opened t (m .contents .kind) b (c .id) (c .nonce) (registrarMessage t d bytes)
+  pub opens : readingOf bytes ≡ read.Clean m → IsRequest (m .body .kind) → registrarMessage t d bytes .outcome ≡ outcome.Done → (b : Board) × Opening t d bytes m b
+  pub opened : (b : Board) (c : Opening t d bytes m b) → Opened t (m .body .kind) b (c .id) (c .nonce) (registrarMessage t d bytes)

@@ -106,14 +106,14 @@ isConfirming Failed = false
 isConfirming Unsettled = false
 
 -- an error, a time out: "Asked to Failed, Confirming or Declining to Unsettled"
-abbrev pub broken : EnrolmentState → EnrolmentState
-broken Asked = Failed
-broken Confirming = Unsettled
-broken Declining = Unsettled
-broken Sure = Sure
-broken Declined = Declined
-broken Failed = Failed
-broken Unsettled = Unsettled
+abbrev pub brokenState : EnrolmentState → EnrolmentState
+brokenState Asked = Failed
+brokenState Confirming = Unsettled
+brokenState Declining = Unsettled
+brokenState Sure = Sure
+brokenState Declined = Declined
+brokenState Failed = Failed
+brokenState Unsettled = Unsettled
 
 -- pkiconf: "Confirming to Sure, Declining to Declined"
 abbrev pub assured : EnrolmentState → EnrolmentState

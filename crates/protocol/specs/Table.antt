@@ -52,9 +52,9 @@ replace [] i x = []
 replace (r ∷ rs) i x = cond (isFor i r) (x ∷ rs) (r ∷ replace rs i x)
 
 -- some slot is free
-unfoldable pub hasRoom : List Transaction → Bool
-hasRoom [] = false
-hasRoom (r ∷ rs) = cond (isFree (r .state)) true (hasRoom rs)
+unfoldable pub hasFreeSlot : List Transaction → Bool
+hasFreeSlot [] = false
+hasFreeSlot (r ∷ rs) = cond (isFree (r .state)) true (hasFreeSlot rs)
 
 -- the lowest free slot, or the number of slots
 unfoldable pub freeSlot : List Transaction → ℕ

@@ -1,5 +1,5 @@
 // The types that the registrar (01's desk) and the end entities (01's board ends) share.
-use message::Fault;
+use message::ReadFault;
 ghost use mathlib.Core.Path.{_≡_};
 ghost use Rattle.protocol.specs.Table.{emptyTable};
 ghost use Rattle.protocol.specs.Outgoing.{silent};
@@ -178,7 +178,7 @@ pub enum Outcome {
 // about (0 where it was refused), what is to be sent, and the next table.
 pub struct RegistrarAnswer {
     pub outcome: Outcome,
-    pub fault: Fault,
+    pub fault: ReadFault,
     pub slot: Slot,
     pub sends: bool,
     pub outgoing: Outgoing,
@@ -189,7 +189,7 @@ pub struct RegistrarAnswer {
 // sent, and the next enrolment.
 pub struct EndEntityAnswer {
     pub outcome: Outcome,
-    pub fault: Fault,
+    pub fault: ReadFault,
     pub sends: bool,
     pub outgoing: Outgoing,
     pub enrolment: Enrolment,

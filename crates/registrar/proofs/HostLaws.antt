@@ -15,7 +15,7 @@ use Rattle.protocol.specs.declared.RegistrarAnswer.{RegistrarAnswer}
 use Rattle.protocol.specs.declared.TransactionState.{TransactionState}
 use Rattle.protocol.specs.Table.{lookup, slotOf, freeTransaction}
 use Rattle.protocol.specs.Registrar.{hostStep, refusedQuietly, doneQuietly, responded, respond, replaced}
-use Rattle.registrar.specs.Steps.{heldAt, response}
+use Rattle.registrar.specs.Steps.{heldAt, responseAnswer}
 use Rattle.registrar.proofs.SlotLaws.{slot-some, slot-none, slot-set}
 
 module _ (t : TransactionTable) (i : TransactionId) {p : ℕ} (slot : (p ≡ slotOf (t .transactions) i) × (length (t .transactions) ≡ 16)) where
@@ -32,7 +32,7 @@ module _ (t : TransactionTable) (i : TransactionId) {p : ℕ} (slot : (p ≡ slo
   pub quietly : {x y : Transaction} → x ≡ y → doneQuietly p (set rs p x) ≡ replaced t i y
   quietly {x} e = rw (← e, slot .0, slot-set rs i x)
 
-  pub sending : (r : Transaction) (s : TransactionState) (status : ℕ) (n : Nonce) (h : Hash) → response t p r i s status n h ≡ respond t i r s status n h
+  pub sending : (r : Transaction) (s : TransactionState) (status : ℕ) (n : Nonce) (h : Hash) → responseAnswer t p r i s status n h ≡ respond t i r s status n h
   sending r s status n h = rw (slot .0, slot-set rs i (responded r s n h))
 
   module _ (ok : Transaction → Bool) (f : Transaction → RegistrarAnswer) where

@@ -11,7 +11,7 @@ use lib.ListN.{length, drop, getD, set, drop-of-length-le}
 use lib.Seq.{drop-cons}
 use Rattle.protocol.specs.declared.TransactionId.{TransactionId}
 use Rattle.protocol.specs.declared.Transaction.{Transaction}
-use Rattle.protocol.specs.Table.{isFree, isFor, lookup, slotOf, replace, hasRoom, freeSlot, put}
+use Rattle.protocol.specs.Table.{isFree, isFor, lookup, slotOf, replace, hasFreeSlot, freeSlot, put}
 
 -- ## Elements past the end
 
@@ -96,16 +96,16 @@ yes-at : (h : Bool) (n m : ℕ) → (n < m → h ≡ true) → (b : Bool) → co
 yes-at h n m ih true p = refl
 yes-at h n m ih false p = ih (le-of-suc-le-suc p)
 
-pub room-yes : (rs : List Transaction) → freeSlot rs < length rs → hasRoom rs ≡ true
-unfolding freeSlot hasRoom
+pub room-yes : (rs : List Transaction) → freeSlot rs < length rs → hasFreeSlot rs ≡ true
+unfolding freeSlot hasFreeSlot
 room-yes [] p = absurd (omega arith)
-room-yes (r ∷ rs) p = yes-at (hasRoom rs) (freeSlot rs) (length rs) (λ q. room-yes rs q) (isFree (r .state)) p
+room-yes (r ∷ rs) p = yes-at (hasFreeSlot rs) (freeSlot rs) (length rs) (λ q. room-yes rs q) (isFree (r .state)) p
 
 no-at : (h : Bool) (n m : ℕ) → (m ≤ n → h ≡ false) → (b : Bool) → suc m ≤ cond b 0 (suc n) → cond b true h ≡ false
 no-at h n m ih true p = absurd (omega arith)
 no-at h n m ih false p = ih (le-of-suc-le-suc p)
 
-pub room-no : (rs : List Transaction) → length rs ≤ freeSlot rs → hasRoom rs ≡ false
-unfolding freeSlot hasRoom
+pub room-no : (rs : List Transaction) → length rs ≤ freeSlot rs → hasFreeSlot rs ≡ false
+unfolding freeSlot hasFreeSlot
 room-no [] p = refl
-room-no (r ∷ rs) p = no-at (hasRoom rs) (freeSlot rs) (length rs) (λ q. room-no rs q) (isFree (r .state)) p
+room-no (r ∷ rs) p = no-at (hasFreeSlot rs) (freeSlot rs) (length rs) (λ q. room-no rs q) (isFree (r .state)) p

@@ -11,7 +11,7 @@ use lib.ListN.{length}
 use lib.Dec.{leb, ltb}
 use Rattle.grammar.specs.declared.Message.{Message}
 use Rattle.message.specs.Read.{readingOf}
-use Rattle.message.specs.declared.Fault.{Fault}
+use Rattle.message.specs.declared.ReadFault.{ReadFault}
 use Rattle.message.specs.declared.Reading.{Reading}
 use Rattle.message.specs.declared.Reading.the-variants.{Clean, Refused}
 use Rattle.protocol.specs.declared.TransactionId.{TransactionId}
@@ -29,7 +29,7 @@ use Rattle.protocol.specs.Message.{Fields, fieldsOf, partOf, statusOr0}
 use Rattle.protocol.specs.Outgoing.{pkiConfOut}
 use Rattle.protocol.specs.Table.{lookup, slotOf, freeSlot, put, freeTransaction}
 use Rattle.protocol.specs.States.{isGranted, isConfirmed, settledState}
-use Rattle.protocol.specs.Refusals.{pass, stop, check, headRows, bitOf, notSixteen}
+use Rattle.protocol.specs.Refusals.{pass, stop, lowestRow, headRows, bitOf, notSixteen}
 use Rattle.protocol.specs.RegistrarRows.{isGood, registrarRows}
 use Rattle.protocol.specs.Registrar.{boardNamed, doneQuietly, doneSending, settled, confirmedAt, refusedMessage, confirmed, refusedReading, registrarChecked, registrarFields, registrarRead, registrarMessage}
 use Rattle.protocol.proofs.Tests.{passes}
@@ -39,7 +39,7 @@ use Rattle.parts.specs.Parts.{sixteenOf}
 use Rattle.incoming.specs.Incoming.{numberOf, faultOf}
 use Rattle.parts.proofs.Laws.{copy-is}
 use Rattle.incoming.proofs.RowLaws.{check-append, orElse, stops-at, passes-all, allPositive}
-use Rattle.registrar.specs.Steps.{heldAt, withAt, laterRows, foundBy, refusal, confirmation, repeated, Copied}
+use Rattle.registrar.specs.Steps.{heldAt, withAt, laterRows, foundBy, refusalAnswer, confirmation, repeated, Copied}
 use Rattle.registrar.proofs.SlotLaws.{free-set, slot-set, getD-past}
 use Rattle.registrar.proofs.HostLaws.{missing, found}
 
@@ -74,7 +74,7 @@ module _ (t : TransactionTable) (d : RegistrarInput) {bytes : List ℕ} {msg : M
   f = lookup ts i
 
   abbrev later : RegistrarAnswer
-  later = registrarChecked (check (laterRows ts f (d .verdict) (Option·getD f freeTransaction) m)) f t d m
+  later = registrarChecked (lowestRow (laterRows ts f (d .verdict) (Option·getD f freeTransaction) m)) f t d m
 
   module _ {p : ℕ} (slot : (p ≡ slotOf (t .transactions) i) × (length (t .transactions) ≡ 16)) {r : Transaction} (h : r ≡ heldAt (t .transactions) p) where
     -- what the slot tells of the transaction with the id
@@ -99,23 +99,23 @@ module _ (t : TransactionTable) (d : RegistrarInput) {bytes : List ℕ} {msg : M
     told-now : Tells k
     told-now = tells k refl
 
-    module _ {n : ℕ} (en : n ≡ numberOf (check (laterRows ts (foundBy k r) (d .verdict) r m))) where
-      rows-are : check (laterRows ts f (d .verdict) (Option·getD f freeTransaction) m) ≡ check (laterRows ts (foundBy k r) (d .verdict) r m)
+    module _ {n : ℕ} (en : n ≡ numberOf (lowestRow (laterRows ts (foundBy k r) (d .verdict) r m))) where
+      rows-are : lowestRow (laterRows ts f (d .verdict) (Option·getD f freeTransaction) m) ≡ lowestRow (laterRows ts (foundBy k r) (d .verdict) r m)
       rows-are = rw (told-now .held, told-now .found)
 
-      pub later-refused : {c : Bool} → c ≡ isConfirmed (r .state) → (n ≡ 0 → ⊥) → refusal n c t (d .nonce) i a ≡ later
+      pub later-refused : {c : Bool} → c ≡ isConfirmed (r .state) → (n ≡ 0 → ⊥) → refusalAnswer n c t (d .nonce) i a ≡ later
       unfolding registrarChecked
       later-refused ec z =
           rw (
             ec,
             rows-are,
-            stops-at (check (laterRows ts (foundBy k r) (d .verdict) r m)) n en z,
+            stops-at (lowestRow (laterRows ts (foundBy k r) (d .verdict) r m)) n en z,
             told-now .confirmed,
             ← copied .id,
             ← copied .nonce,
           )
 
-      passes-it : n ≡ 0 → check (laterRows ts f (d .verdict) (Option·getD f freeTransaction) m) ≡ pass
+      passes-it : n ≡ 0 → lowestRow (laterRows ts f (d .verdict) (Option·getD f freeTransaction) m) ≡ pass
       unfolding allPositive
       passes-it z = rows-are ∙ passes-all (laterRows ts (foundBy k r) (d .verdict) r m) refl (sym z ∙ en)
 
@@ -148,7 +148,7 @@ unfolding bitOf
 bit-plain n c h = rw (ne-eqb n 20 (λ z. omega arith))
 
 module _ (g : Bool) (m : Fields) where
-  head-below : (n : ℕ) → check (headRows g m) ≡ stop n → n < 20
+  head-below : (n : ℕ) → lowestRow (headRows g m) ≡ stop n → n < 20
   head-below n e = by (stops (headRows g m) n e)
     where
       by : Applies n (headRows g m) → n < 20
@@ -160,14 +160,14 @@ module _ (g : Bool) (m : Fields) where
       by (inr (inr (inr (inr (inr z))))) = absurd z
 
   -- from 6 up the id and the senderNonce are there with sixteen bytes
-  has-id : (n : ℕ) → check (headRows g m) ≡ stop n → 6 ≤ n → notSixteen (m .id) ≡ false
+  has-id : (n : ℕ) → lowestRow (headRows g m) ≡ stop n → 6 ≤ n → notSixteen (m .id) ≡ false
   has-id n e h = by (notSixteen (m .id)) refl
     where
       by : (b : Bool) → notSixteen (m .id) ≡ b → b ≡ false
       by true z = let q : n ≤ 4 = least (headRows g m) n refl e 4 (inr (inl (refl, z))) in absurd (omega arith)
       by false z = refl
 
-  has-nonce : (n : ℕ) → check (headRows g m) ≡ stop n → 6 ≤ n → notSixteen (m .senderNonce) ≡ false
+  has-nonce : (n : ℕ) → lowestRow (headRows g m) ≡ stop n → 6 ≤ n → notSixteen (m .senderNonce) ≡ false
   has-nonce n e h = by (notSixteen (m .senderNonce)) refl
     where
       by : (b : Bool) → notSixteen (m .senderNonce) ≡ b → b ≡ false
@@ -176,8 +176,8 @@ module _ (g : Bool) (m : Fields) where
 
 module _
     (t : TransactionTable) (d : RegistrarInput) (bytes : List ℕ) (m : Message)
-    (i : TransactionId) (ei : i .bytes ≡ sixteenOf (partOf bytes (m .fields .«transaction_id»)))
-    (a : Nonce) (ea : a .bytes ≡ sixteenOf (partOf bytes (m .fields .«sender_nonce»))) where
+    (i : TransactionId) (ei : i .bytes ≡ sixteenOf (partOf bytes (m .header .«transaction_id»)))
+    (a : Nonce) (ea : a .bytes ≡ sixteenOf (partOf bytes (m .header .«sender_nonce»))) where
   abbrev F : Fields
   F = fieldsOf bytes m
 
@@ -189,34 +189,34 @@ module _
 
   copied-id : notSixteen (fieldsOf bytes m .id) ≡ false → i ≡ asId (fieldsOf bytes m .id)
   unfolding fieldsOf
-  copied-id z = let q : i .bytes ≡ _ = ei ∙ copy-is bytes (m .fields .«transaction_id») z in λ j. record { bytes = q j }
+  copied-id z = let q : i .bytes ≡ _ = ei ∙ copy-is bytes (m .header .«transaction_id») z in λ j. record { bytes = q j }
 
   copied-nonce : notSixteen (fieldsOf bytes m .senderNonce) ≡ false → a ≡ asNonce (fieldsOf bytes m .senderNonce)
   unfolding fieldsOf
-  copied-nonce z = let q : a .bytes ≡ _ = ea ∙ copy-is bytes (m .fields .«sender_nonce») z in λ j. record { bytes = q j }
+  copied-nonce z = let q : a .bytes ≡ _ = ea ∙ copy-is bytes (m .header .«sender_nonce») z in λ j. record { bytes = q j }
 
-  all-rows : check (registrarRows (t .transactions) named (d .verdict) F) ≡ orElse (check (headRows good F)) (check (laterRows (t .transactions) named (d .verdict) (Option·getD named freeTransaction) F))
+  all-rows : lowestRow (registrarRows (t .transactions) named (d .verdict) F) ≡ orElse (lowestRow (headRows good F)) (lowestRow (laterRows (t .transactions) named (d .verdict) (Option·getD named freeTransaction) F))
   unfolding registrarRows
   all-rows = check-append (headRows good F) (laterRows (t .transactions) named (d .verdict) (Option·getD named freeTransaction) F)
 
-  same-refusal : (n : ℕ) → check (headRows good F) ≡ stop n → (b : Bool) → leb 6 n ≡ b → refusal n false t (d .nonce) i a ≡ refusedMessage n named t (d .nonce) F
+  same-refusal : (n : ℕ) → lowestRow (headRows good F) ≡ stop n → (b : Bool) → leb 6 n ≡ b → refusalAnswer n false t (d .nonce) i a ≡ refusedMessage n named t (d .nonce) F
   same-refusal n e true z =
       let h : 6 ≤ n = leb-true 6 n z in
       rw (bit-plain n (confirmedAt named) (head-below good F n e), ← copied-id (has-id good F n e h), ← copied-nonce (has-nonce good F n e h))
   same-refusal n e false z = rw (z, bit-plain n (confirmedAt named) (head-below good F n e))
 
   -- the first five rows as the code asks them, with its own answer on the verdict
-  module _ {g : Bool} (eg : g ≡ isGood (d .verdict)) {n : ℕ} (en : n ≡ numberOf (check (headRows g (fieldsOf bytes m)))) where
-    number-is : n ≡ numberOf (check (headRows good F))
+  module _ {g : Bool} (eg : g ≡ isGood (d .verdict)) {n : ℕ} (en : n ≡ numberOf (lowestRow (headRows g (fieldsOf bytes m)))) where
+    number-is : n ≡ numberOf (lowestRow (headRows good F))
     number-is = rw eg at en
 
-    pub head-refused : (n ≡ 0 → ⊥) → refusal n false t (d .nonce) i a ≡ registrarFields t d (fieldsOf bytes m)
+    pub head-refused : (n ≡ 0 → ⊥) → refusalAnswer n false t (d .nonce) i a ≡ registrarFields t d (fieldsOf bytes m)
     unfolding registrarFields registrarChecked
     head-refused z =
-        let e : check (headRows good F) ≡ stop n = stops-at (check (headRows good F)) n number-is z in
+        let e : lowestRow (headRows good F) ≡ stop n = stops-at (lowestRow (headRows good F)) n number-is z in
         same-refusal n e (leb 6 n) refl ∙ rw (all-rows, e)
 
-    head-pass : n ≡ 0 → check (headRows good F) ≡ pass
+    head-pass : n ≡ 0 → lowestRow (headRows good F) ≡ pass
     unfolding allPositive
     head-pass z = passes-all (headRows good F) refl (sym z ∙ number-is)
 
@@ -226,14 +226,14 @@ module _
     abbrev fs : Option Transaction
     fs = lookup (t .transactions) i
 
-    pub head-passed : n ≡ 0 → registrarChecked (check (laterRows (t .transactions) fs (d .verdict) (Option·getD fs freeTransaction) F)) fs t d F ≡ registrarFields t d F
+    pub head-passed : n ≡ 0 → registrarChecked (lowestRow (laterRows (t .transactions) fs (d .verdict) (Option·getD fs freeTransaction) F)) fs t d F ≡ registrarFields t d F
     unfolding registrarFields
     head-passed z = rw (all-rows, head-pass z, head-copied z .id)
 
 -- ## The reading taken apart
 
 module _ (t : TransactionTable) (d : RegistrarInput) (bytes : List ℕ) {x : Reading} (e : x ≡ readingOf bytes) where
-  pub unread : {f : Fault} → x ≡ Refused f → {g : Fault} → g ≡ faultOf x → refusedReading g t ≡ registrarMessage t d bytes
+  pub unread : {f : ReadFault} → x ≡ Refused f → {g : ReadFault} → g ≡ faultOf x → refusedReading g t ≡ registrarMessage t d bytes
   unfolding registrarMessage registrarRead
   unread q eg = rw (eg, ← e, q)
 

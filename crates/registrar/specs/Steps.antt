@@ -63,8 +63,8 @@ foundBy false r = none
 -- ## Answers
 
 -- refused: from 6 up with an error message for the id i, which answers the nonce a
-abbrev pub refusal : (number : ℕ) → (confirmed : Bool) → TransactionTable → (fresh : Nonce) → (i : TransactionId) → (a : Nonce) → RegistrarAnswer
-refusal k c t n i a =
+abbrev pub refusalAnswer : (number : ℕ) → (confirmed : Bool) → TransactionTable → (fresh : Nonce) → (i : TransactionId) → (a : Nonce) → RegistrarAnswer
+refusalAnswer k c t n i a =
     record {
       outcome = outcome.Refused k (bitOf k c);
       fault = noFault;
@@ -84,8 +84,8 @@ confirmation t p r n i a s =
     cond (isGranted (r .state)) (doneSending p (set (t .transactions) p (settled r (settledState s) a)) (pkiConfOut i n a)) (repeated p t (pkiConfOut i n a))
 
 -- a response of this status for the transaction r in the slot p, which then is in the state s
-abbrev pub response : TransactionTable → (p : ℕ) → (r : Transaction) → TransactionId → TransactionState → (status : ℕ) → Nonce → Hash → RegistrarAnswer
-response t p r i s status n h = doneSending p (set (t .transactions) p (responded r s n h)) (responseOut (responseTo (r .kind)) i n (r .taken) status)
+abbrev pub responseAnswer : TransactionTable → (p : ℕ) → (r : Transaction) → TransactionId → TransactionState → (status : ℕ) → Nonce → Hash → RegistrarAnswer
+responseAnswer t p r i s status n h = doneSending p (set (t .transactions) p (responded r s n h)) (responseOut (responseTo (r .kind)) i n (r .taken) status)
 
 -- the id and the nonce that the code copies out of a message are the message's own
 pub record Copied (bytes : List ℕ) (m : Message) (i : TransactionId) (a : Nonce) : Type 0 where

@@ -2,7 +2,7 @@
 use grammar::Offset;
 use incoming::rows::bit_of;
 use incoming::rows::read_refusal;
-use message::Fault;
+use message::ReadFault;
 use protocol::FailureInfo;
 use protocol::Hash;
 use protocol::Nonce;
@@ -16,7 +16,7 @@ ghost use mathlib.Core.Path.{_≡_};
 ghost use Rattle.protocol.specs.Outgoing.{errorOut, pkiConfOut, responseOut};
 ghost use Rattle.protocol.specs.Refusals.{noFault};
 ghost use Rattle.protocol.specs.Registrar.{refusedQuietly, refusedReading, doneQuietly, doneSending};
-ghost use Rattle.registrar.specs.Steps.{refusal, repeated};
+ghost use Rattle.registrar.specs.Steps.{refusalAnswer, repeated};
 
 // error, with status 2
 fn error_out(id: TransactionId, fresh: Nonce, answered: Nonce, failure: FailureInfo) -> Outgoing
@@ -75,10 +75,10 @@ pub(crate) fn response_out(
     }
 }
 
-fn no_fault() -> Fault
+fn no_fault() -> ReadFault
     ensures { λ r. ⌜ r ≡ noFault ⌝ }
 {
-    Fault {
+    ReadFault {
         number: 0,
         at: Offset(0),
         rule: 0,
@@ -100,7 +100,7 @@ pub(crate) fn refused_quietly(number: u8, table: TransactionTable) -> RegistrarA
 }
 
 // The bytes do not read.
-pub(crate) fn refused_reading(fault: Fault, table: TransactionTable) -> RegistrarAnswer
+pub(crate) fn refused_reading(fault: ReadFault, table: TransactionTable) -> RegistrarAnswer
     ensures { λ r. ⌜ r ≡ refusedReading fault table ⌝ }
 {
     let number = read_refusal(fault);
@@ -123,7 +123,7 @@ pub(crate) fn refused_message(
     id: TransactionId,
     answered: Nonce,
 ) -> RegistrarAnswer
-    ensures { λ r. ⌜ r ≡ refusal number confirmed table fresh id answered ⌝ }
+    ensures { λ r. ⌜ r ≡ refusalAnswer number confirmed table fresh id answered ⌝ }
 {
     let bit = bit_of(number, confirmed);
     if 6 <= number {

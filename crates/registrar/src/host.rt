@@ -22,7 +22,7 @@ use protocol::kinds::response_to;
 ghost use mathlib.Core.Path.{_≡_};
 ghost use lib.ListN.{set};
 ghost use Rattle.protocol.specs.Registrar.{settled, responded, doneQuietly, registrarIssue, registrarRefuse, registrarLapse, registrarClose};
-ghost use Rattle.registrar.specs.Steps.{response};
+ghost use Rattle.registrar.specs.Steps.{responseAnswer};
 
 // The transaction in another state, with another nonce taken.
 pub(crate) fn settled(held: Transaction, state: TransactionState, taken: Nonce) -> Transaction
@@ -72,7 +72,7 @@ fn respond(
     nonce: Nonce,
     hash: Hash,
 ) -> RegistrarAnswer
-    ensures { λ r. ⌜ r ≡ response table (slot .0) held id state status nonce hash ⌝ }
+    ensures { λ r. ⌜ r ≡ responseAnswer table (slot .0) held id state status nonce hash ⌝ }
 {
     let next = with_at(table, slot, responded(held, state, nonce, hash));
     done_sending(

@@ -21,9 +21,9 @@ ghost use mathlib.Core.Bool.{Bool, true, false, not, _&&_, _||_};
 ghost use lib.Dec.{eqb};
 ghost use Rattle.protocol.specs.Bytes.{isNonce, sameBytes};
 ghost use Rattle.protocol.specs.Message.{isEnrolmentKind, isPresent, partOf, optionalPart, fieldsOf};
-ghost use Rattle.protocol.specs.Table.{hasRoom};
+ghost use Rattle.protocol.specs.Table.{hasFreeSlot};
 ghost use Rattle.protocol.specs.States.{hasSent, hasHash, isGranted, settledBy};
-ghost use Rattle.protocol.specs.Refusals.{check};
+ghost use Rattle.protocol.specs.Refusals.{lowestRow};
 ghost use Rattle.protocol.specs.RegistrarRows.{isGood, names};
 ghost use Rattle.incoming.specs.Incoming.{numberOf};
 ghost use Rattle.registrar.specs.Steps.{laterRows, foundBy};
@@ -40,7 +40,7 @@ pub(crate) fn is_good(verdict: Verdict) -> bool
 
 // 11: no slot is free.
 fn full(table: TransactionTable) -> bool
-    ensures { λ r. ⌜ r ≡ not (hasRoom (table .transactions)) ⌝ }
+    ensures { λ r. ⌜ r ≡ not (hasFreeSlot (table .transactions)) ⌝ }
 {
     if free_slot(table) < TransactionTable::CAPACITY {
         return false;
@@ -139,13 +139,13 @@ fn request_refusal(
     held: Transaction,
     verdict: Verdict,
 ) -> u8
-    requires { ⌜ isEnrolmentKind (m .contents .kind) ≡ true ⌝ }
-    ensures { λ r. ⌜ r ≡ numberOf (check (laterRows (table .transactions) (foundBy known held) verdict held (fieldsOf (now (message .entry)) m))) ⌝ }
+    requires { ⌜ isEnrolmentKind (m .body .kind) ≡ true ⌝ }
+    ensures { λ r. ⌜ r ≡ numberOf (lowestRow (laterRows (table .transactions) (foundBy known held) verdict held (fieldsOf (now (message .entry)) m))) ⌝ }
 {
-    let fields = m.fields;
-    let contents = m.contents;
-    let entry = contents.entry;
-    if is_present(fields.recip_nonce) {
+    let header = m.header;
+    let body = m.body;
+    let entry = body.entry;
+    if is_present(header.recip_nonce) {
         return 9;
     }
     if known {
@@ -154,13 +154,13 @@ fn request_refusal(
     if full(table) {
         return 11;
     }
-    if contents.kind == 4 {
+    if body.kind == 4 {
         return 0;
     }
-    if not_one(contents.entries) {
+    if not_one(body.entries) {
         return 15;
     }
-    if entry.number != request_number(contents.kind) {
+    if entry.number != request_number(body.kind) {
         return 16;
     }
     0
@@ -174,26 +174,26 @@ fn confirmation_refusal(
     held: Transaction,
     verdict: Verdict,
 ) -> u8
-    requires { ⌜ m .contents .kind ≡ 24 ⌝ }
-    ensures { λ r. ⌜ r ≡ numberOf (check (laterRows (table .transactions) (foundBy true held) verdict held (fieldsOf (now (message .entry)) m))) ⌝ }
+    requires { ⌜ m .body .kind ≡ 24 ⌝ }
+    ensures { λ r. ⌜ r ≡ numberOf (lowestRow (laterRows (table .transactions) (foundBy true held) verdict held (fieldsOf (now (message .entry)) m))) ⌝ }
 {
-    let fields = m.fields;
-    let contents = m.contents;
-    let entry = contents.entry;
+    let header = m.header;
+    let body = m.body;
+    let entry = body.entry;
     let status = status_or_0(entry);
     if for_another(verdict, held.board) {
         return 13;
     }
-    if other_nonce(message, fields.recip_nonce, held) {
+    if other_nonce(message, header.recip_nonce, held) {
         return 14;
     }
-    if not_one(contents.entries) {
+    if not_one(body.entries) {
         return 15;
     }
     if entry.number != request_number(held.kind) {
         return 16;
     }
-    if early_hash_alg(entry.hash_alg, fields.version) {
+    if early_hash_alg(entry.hash_alg, header.version) {
         return 17;
     }
     if other_status(status) {
@@ -202,7 +202,7 @@ fn confirmation_refusal(
     if other_hash(message, entry.cert_hash, held) {
         return 19;
     }
-    if not_taken(message, fields.sender_nonce, held, status) {
+    if not_taken(message, header.sender_nonce, held, status) {
         return 20;
     }
     0
@@ -217,10 +217,10 @@ pub(crate) fn later_refusal(
     held: Transaction,
     verdict: Verdict,
 ) -> u8
-    ensures { λ r. ⌜ r ≡ numberOf (check (laterRows (table .transactions) (foundBy known held) verdict held (fieldsOf (now (message .entry)) m))) ⌝ }
+    ensures { λ r. ⌜ r ≡ numberOf (lowestRow (laterRows (table .transactions) (foundBy known held) verdict held (fieldsOf (now (message .entry)) m))) ⌝ }
 {
-    let contents = m.contents;
-    let kind = contents.kind;
+    let body = m.body;
+    let kind = body.kind;
     if kind == 24 {
         if known {
             return confirmation_refusal(table, message, m, held, verdict);

@@ -39,7 +39,7 @@ ghost use mathlib.Core.Option.{Option·getD};
 ghost use Rattle.protocol.specs.Bytes.{noNonce, noHash};
 ghost use Rattle.protocol.specs.Message.{fieldsOf};
 ghost use Rattle.protocol.specs.Table.{freeSlot, put, lookup, freeTransaction};
-ghost use Rattle.protocol.specs.Refusals.{check};
+ghost use Rattle.protocol.specs.Refusals.{lowestRow};
 ghost use Rattle.protocol.specs.Registrar.{boardNamed, doneQuietly, registrarChecked, registrarFields, registrarMessage};
 ghost use Rattle.registrar.specs.Steps.{laterRows, confirmation, Copied};
 
@@ -106,9 +106,9 @@ fn headed(
     answered: Nonce,
 ) -> RegistrarAnswer
     requires { ⌜ Copied (now bytes) m id answered ⌝ }
-    ensures { λ r. ⌜ r ≡ registrarChecked (check (laterRows (table .transactions) (lookup (table .transactions) id) (input .verdict) (Option·getD (lookup (table .transactions) id) freeTransaction) (fieldsOf (now (bytes .entry)) m))) (lookup (table .transactions) id) table input (fieldsOf (now (bytes .entry)) m) ⌝ }
+    ensures { λ r. ⌜ r ≡ registrarChecked (lowestRow (laterRows (table .transactions) (lookup (table .transactions) id) (input .verdict) (Option·getD (lookup (table .transactions) id) freeTransaction) (fieldsOf (now (bytes .entry)) m))) (lookup (table .transactions) id) table input (fieldsOf (now (bytes .entry)) m) ⌝ }
 {
-    let contents = m.contents;
+    let body = m.body;
     let verdict = input.verdict;
     let slot = find(table, id);
     let held = transaction_at(table, Slot(slot));
@@ -133,20 +133,20 @@ fn headed(
             input.nonce,
             id,
             answered,
-            status_or_0(contents.entry),
+            status_or_0(body.entry),
         );
     }
-    open(table, id, board_named(verdict), contents.kind, answered)
+    open(table, id, board_named(verdict), body.kind, answered)
 }
 
 // A message that reads.
 fn step(table: TransactionTable, bytes: &[u8], m: Message, input: RegistrarInput) -> RegistrarAnswer
     ensures { λ r. ⌜ r ≡ registrarFields table input (fieldsOf (now (bytes .entry)) m) ⌝ }
 {
-    let fields = m.fields;
+    let header = m.header;
     let verdict = input.verdict;
-    let id = id_of(bytes, fields.transaction_id);
-    let answered = nonce_of(bytes, fields.sender_nonce);
+    let id = id_of(bytes, header.transaction_id);
+    let answered = nonce_of(bytes, header.sender_nonce);
     let number = head_refusal(bytes, m, is_good(verdict));
     if number != 0 {
         return refused_message(number, false, table, input.nonce, id, answered);

@@ -2,7 +2,7 @@
 use mathlib.Core.Path.{refl, sym, _∙_, ap}
 use Rattle.der.proofs.Auto.{tests}
 use Rattle.protocol.specs.Message.{Fields, fieldsOf}
-use Rattle.protocol.specs.Refusals.{Check}
+use Rattle.protocol.specs.Refusals.{LowestRow}
 use Rattle.protocol.specs.EndEntity.{enrolmentRefused, endEntityChecked}
 use Rattle.end_entity.proofs.CheckedLaws.{refused-by, passes-all, answered}
 use Rattle.end_entity.proofs.checked.Statement.{statement}
@@ -20,7 +20,7 @@ checked-spec = tie.close (tie.spec
     (λ c.
     let t = c .before .before in
     let s = t .before .before .before in
-    c .refused .ensures ∙ ap (enrolmentRefused (t .before .refusal .result)) (c .before .after-refusal .ensures) ∙ refused-by (s .args .enrolment) (s .args .input) (fields s) _ (t .before .refusal .ensures) (t .if1 .taken))
+    c .refused .ensures ∙ ap (enrolmentRefused (t .before .lowest-refusal .result)) (c .before .after-refusal .ensures) ∙ refused-by (s .args .enrolment) (s .args .input) (fields s) _ (t .before .lowest-refusal .ensures) (t .if1 .taken))
     (λ c κs. search tests)
     (λ c κs. search tests)
     (λ c κs. search tests)
@@ -28,6 +28,6 @@ checked-spec = tie.close (tie.spec
     let n = c .before .before in
     let t = n .before .before .before .before in
     let s = t .before .before .before in
-    let z = sym (t .if1 .left) ∙ t .before .refusal .ensures in
+    let z = sym (t .if1 .left) ∙ t .before .lowest-refusal .ensures in
     c .taken .ensures (fields s) refl (sym (c .before .status-or-0 .ensures)) (sym (answered (s .args .enrolment) (s .args .input) (s .args .bytes .now) (s .args .m) (n .nonce-of .result) z (n .nonce-of .ensures)))
-    ∙ ap (λ (k : Check). endEntityChecked k (s .args .enrolment) (s .args .input) (fields s)) (sym (passes-all (s .args .enrolment) (s .args .input) (fields s) z))))
+    ∙ ap (λ (k : LowestRow). endEntityChecked k (s .args .enrolment) (s .args .input) (fields s)) (sym (passes-all (s .args .enrolment) (s .args .input) (fields s) z))))

@@ -17,4 +17,4 @@ check-number-spec = tie.close (tie.spec
     (λ c κs. search tests)
     (λ c. omega (arith, fault-in _ 0 (c .before .before .before .before .before .before .before .args .bytes .now) (told (c .before .before .before .before .check-elements .ensures) (c .before .before .c .given .1))))
     (λ c. search (tests, told (c .before .before .check-elements .ensures) (c .enum-told .given .1)))
-    (λ c. search (tests, c .small .ensures, told (c .before .before .before .before .check-elements .ensures) (c .before .before .c .given .1))))
+    (λ c. search (tests, c .widened .ensures, told (c .before .before .before .before .check-elements .ensures) (c .before .before .c .given .1))))

@@ -19,7 +19,7 @@ returns-3 c =
     let offset = rule .before .before .before .before in
     let matched = offset .before .before .before .before in
     let refused = told (matched .before .before .read .ensures) (matched .r2 .given .1) in
-    (search (tests, c .small .ensures, refused), search (tests, rule .put-small .ensures, offset .put-size .ensures, refused))
+    (search (tests, c .widened .ensures, refused), search (tests, rule .put-small .ensures, offset .put-size .ensures, refused))
 
 pub read-into-spec : {M : Type 1} → statement M
 unfolding readAnswer readFields

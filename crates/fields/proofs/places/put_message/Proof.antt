@@ -18,12 +18,12 @@ returns c =
     let header = body .before .before .before .before in
     let given = header .before .before .before .args .m in
     after (putProtected given) (protected .put-protected .ensures) (
-    after (putBody (given .contents)) (contents .put-body .ensures) (
-    after (putIds (given .fields)) (ids .put-ids .ensures) (
-    after (putNames (given .fields)) (names .put-names .ensures) (
+    after (putBody (given .body)) (contents .put-body .ensures) (
+    after (putIds (given .header)) (ids .put-ids .ensures) (
+    after (putNames (given .header)) (names .put-names .ensures) (
     after (putSpan 9 10 (given .«extra_certs»)) (extra-certs .put-span4 .ensures) (
     after (putSpan 7 8 (given .protection)) (protection .put-span3 .ensures) (
-    after (putSpan 5 6 (given .body)) (body .put-span2 .ensures) (
+    after (putSpan 5 6 (given .«body_span»)) (body .put-span2 .ensures) (
     header .put-span .ensures)))))))
 
 pub put-message-spec : {M : Type 1} → statement M

@@ -1,11 +1,11 @@
 -- The calls one after the other, as the definition names them.
 use Rattle.der.proofs.Auto.{tests}
-use Rattle.grammar.specs.Entries.{statusEntry}
+use Rattle.grammar.specs.Entries.{certStatusOf}
 use Rattle.grammar.proofs.entries.cert_status.Statement.{statement}
 use Rattle.grammar.proofs.entries.cert_status.Tie as tie
 
 returns : tie.Need-returns
-unfolding statusEntry
+unfolding certStatusOf
 returns c =
     let found-span = c .before in
     let value = found-span .before in
@@ -27,7 +27,7 @@ returns c =
       ← done .done .ensures,
       ← typed-field .typed-field .ensures,
       ← maybe-status .maybe-status .ensures,
-      ← small .small .ensures,
+      ← small .small-integer .ensures,
       ← need2 .need2 .ensures,
       ← enter .enter .ensures,
       ← need .need .ensures,

@@ -22,7 +22,7 @@ returns c =
       span-from .span-from .ensures,
       ← leave2 .leave2 .ensures,
       ← leave .leave .ensures,
-      ← small .small .ensures,
+      ← small .small-integer .ensures,
       ← enter2 .enter2 .ensures,
       ← need2 .need2 .ensures,
       ← enter .enter .ensures,

@@ -26,7 +26,7 @@ returns c =
       ← maybe .maybe .ensures,
       ← maybe-key-pair .maybe-key-pair .ensures,
       ← status-info .status-info .ensures,
-      ← small .small .ensures,
+      ← small .small-integer .ensures,
       ← enter .enter .ensures,
       ← need .need .ensures,
     )

@@ -20,7 +20,7 @@ returns c =
       ← done .done .ensures,
       ← fail-info .fail-info .ensures,
       ← maybe-text .maybe-text .ensures,
-      ← small .small .ensures,
+      ← small .small-integer .ensures,
       ← enter .enter .ensures,
       ← need .need .ensures,
     )

@@ -12,4 +12,4 @@ read-names-spec = tie.close (tie.spec
     (λ c κs. search tests)
     (λ c κs. search tests)
     (λ c κs. search tests)
-    (λ c. search (tests, c .whole-span2 .ensures, c .before .whole-span .ensures, ← c .before .before .value .ensures, ← c .before .before .before .name2 .ensures, ← c .before .before .before .before .name .ensures, ← c .before .before .before .before .before .small .ensures)))
+    (λ c. search (tests, c .whole-span2 .ensures, c .before .whole-span .ensures, ← c .before .before .value .ensures, ← c .before .before .before .name2 .ensures, ← c .before .before .before .before .name .ensures, ← c .before .before .before .before .before .small-integer .ensures)))

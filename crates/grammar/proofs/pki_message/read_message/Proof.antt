@@ -21,7 +21,7 @@ whole : (m : List ℕ) {z s c p x d l q : Cursor} {h : HeaderRead} {b : BodyRead
     z ≡ startAt (length m) → s ≡ needOf m 0x30 z → c ≡ enterOf s → h ≡ headerOf m c → b ≡ bodyOf m (h .cur) → p ≡ fieldOf m 0xA0 0x03 (b .cur) → x ≡ sequenceField m 0xA1 Certificate p →
     d ≡ doneOf x → l ≡ leaveOf s d → q ≡ doneOf l →
     i ≡ wholeSpan c (h .cur) → j ≡ wholeSpan (h .cur) (b .cur) → k ≡ outerSpan (b .cur) p → n ≡ outerSpan p x →
-    _≡_ {A = MessageRead} (record { cur = q; found = record { header = i; body = j; protection = k; «extra_certs» = n; fields = h .fields; contents = b .contents } }) (messageOf m)
+    _≡_ {A = MessageRead} (record { cur = q; found = record { «header_span» = i; «body_span» = j; protection = k; «extra_certs» = n; header = h .header; body = b .body } }) (messageOf m)
 unfolding messageOf
 whole m z s c h b p x d l q i j k n = simp (i, j, k, n, q, l, d, x, p, b, h, c, s, z)
 

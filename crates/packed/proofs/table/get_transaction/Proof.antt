@@ -2,7 +2,7 @@
 use mathlib.Core.Path.{sym, _∙_, ap}
 use borrow.Author.Needs.{needs}
 use lib.Seq.{getD-drop}
-use Rattle.packed.specs.Table.{stateOf, transactionOf}
+use Rattle.packed.specs.Table.{transactionStateOf, transactionOf}
 use Rattle.packed.proofs.Parts.{part-drop, two-drop}
 use Rattle.packed.proofs.table.get_transaction.Statement.{statement}
 use Rattle.packed.proofs.table.get_transaction.Tie as tie
@@ -38,5 +38,5 @@ get-transaction-spec =
       taken = record { bytes = (l .get-162 .ensures ∙ sym (part-drop (a .at) 19 16 (a .bytes .now))) i };
       sent = record { bytes = (h .before .get-163 .ensures ∙ sym (part-drop (a .at) 35 16 (a .bytes .now))) i };
       hash = record { bytes = (h .get-32 .ensures ∙ sym (part-drop (a .at) 51 32 (a .bytes .now))) i };
-      state = (c .state-of .ensures ∙ ap stateOf (sym (getD-drop (a .at) (a .bytes .now) 83 0))) i;
+      state = (c .state-of .ensures ∙ ap transactionStateOf (sym (getD-drop (a .at) (a .bytes .now) 83 0))) i;
     }))

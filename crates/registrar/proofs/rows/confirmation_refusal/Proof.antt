@@ -7,7 +7,7 @@ use borrow.Author.Needs.{needs}
 use borrow.Author.Tests.{eq-eqb, ne-eqb}
 use Rattle.der.proofs.Auto.{told}
 use Rattle.protocol.specs.Message.{Fields, fieldsOf}
-use Rattle.protocol.specs.Refusals.{Row, check}
+use Rattle.protocol.specs.Refusals.{Row, lowestRow}
 use Rattle.protocol.specs.RegistrarRows.{confirms, hasEntries, oneEntry, hashAlgTooEarly}
 use Rattle.protocol.proofs.Rows.{through, halt, skip}
 use Rattle.protocol.proofs.Tests.{not-false}
@@ -25,7 +25,7 @@ rows s = laterRows (s .args .table .transactions) (foundBy true (s .args .held))
 
 is-certConf : (s : tie.Start) → confirms (fields s) ≡ true
 unfolding fieldsOf
-is-certConf s = eq-eqb (s .args .m .contents .kind) 24 (s .pre)
+is-certConf s = eq-eqb (s .args .m .body .kind) 24 (s .pre)
 
 entries : (s : tie.Start) → hasEntries (fields s) ≡ true
 unfolding fieldsOf
@@ -33,7 +33,7 @@ entries s = rw (s .pre)
 
 -- its kind is taken here, 9 to 11 are a request's, and the transaction is known
 past-12 : (s : tie.Start) → Past 5 (rows s)
-unfolding fieldsOf check
+unfolding fieldsOf lowestRow
 past-12 s = skips 5 (rows s) (rw (s .pre))
 
 abbrev to-13 : tie.Else1 → tie.Start

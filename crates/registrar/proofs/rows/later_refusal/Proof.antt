@@ -6,7 +6,7 @@ use borrow.Author.Tests.{ne-eqb}
 use mathlib.Core.Bool.{Bool}
 use Rattle.der.proofs.Auto.{told}
 use Rattle.protocol.specs.Message.{fieldsOf}
-use Rattle.protocol.specs.Refusals.{Row, check}
+use Rattle.protocol.specs.Refusals.{Row, lowestRow}
 use Rattle.protocol.proofs.Rows.{halt}
 use Rattle.incoming.specs.Incoming.{numberOf}
 use Rattle.incoming.proofs.RowLaws.{lowest, skips}
@@ -18,10 +18,10 @@ abbrev rows : tie.Start → Bool → List Row
 rows s known = laterRows (s .args .table .transactions) (foundBy known (s .args .held)) (s .args .verdict) (s .args .held) (fieldsOf (s .args .message .now) (s .args .m))
 
 pub later-refusal-spec : {M : Type 1} → statement M
-unfolding fieldsOf check
+unfolding fieldsOf lowestRow
 later-refusal-spec = tie.close (tie.spec
     (λ c κs. c .before .if1 .taken)
-    (λ c. c .confirmation-refusal .ensures ∙ ap (λ (k : Bool). numberOf (check (rows (c .before .before .before .before .before) k))) (sym (c .before .if2 .taken)))
+    (λ c. c .confirmation-refusal .ensures ∙ ap (λ (k : Bool). numberOf (lowestRow (rows (c .before .before .before .before .before) k))) (sym (c .before .if2 .taken)))
     (λ c.
     let s = c .before .before .before .before in
     lowest (skips 4 (rows s (s .args .known)) (rw (c .before .if1 .taken)) _ (halt (rw (c .before .if1 .taken, c .if2 .left)))))
@@ -30,4 +30,4 @@ later-refusal-spec = tie.close (tie.spec
     (λ c. c .request-refusal .ensures)
     (λ c.
     let s = c .before .before .before .before .before in
-    lowest {rs = rows s (s .args .known)} (halt (rw (told (c .before .is-enrolment-kind .ensures) (c .if3 .left), ne-eqb (s .args .m .contents .kind) 24 (c .before .before .if1 .left))))))
+    lowest {rs = rows s (s .args .known)} (halt (rw (told (c .before .is-enrolment-kind .ensures) (c .if3 .left), ne-eqb (s .args .m .body .kind) 24 (c .before .before .if1 .left))))))

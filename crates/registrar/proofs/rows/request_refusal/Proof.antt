@@ -7,7 +7,7 @@ use borrow.Author.Tests.{eq-eqb, ne-eqb}
 use lib.ListN.{length, drop}
 use Rattle.der.proofs.Auto.{told}
 use Rattle.protocol.specs.Message.{Fields, fieldsOf}
-use Rattle.protocol.specs.Refusals.{Row, check, pass}
+use Rattle.protocol.specs.Refusals.{Row, lowestRow, pass}
 use Rattle.protocol.specs.RegistrarRows.{opens, confirms, hasEntries, oneEntry}
 use Rattle.protocol.proofs.Rows.{Lowest, through, halt, skip}
 use Rattle.protocol.proofs.Tests.{not-false}
@@ -29,10 +29,10 @@ request s = s .pre
 
 not-certConf : (s : tie.Start) → confirms (fields s) ≡ false
 unfolding fieldsOf
-not-certConf s = not-24 (s .args .m .contents .kind) (s .pre)
+not-certConf s = not-24 (s .args .m .body .kind) (s .pre)
 
 past-8 : (s : tie.Start) → Past 1 (rows s)
-unfolding check
+unfolding lowestRow
 past-8 s = skips 1 (rows s) (rw (request s))
 
 abbrev to-9 : tie.Else1 → tie.Start
@@ -56,7 +56,7 @@ past-11 c k l = past-10 (c .before .before) k (skip (on (request (to-11 c)) (tol
 
 -- 12 to 14 are a certConf's
 past-14 : (c : tie.Else3) → Past 7 (rows (to-11 c))
-unfolding check
+unfolding lowestRow
 past-14 c k l = past-11 c k (skips 3 (drop 4 (rows (to-11 c))) (rw (not-certConf (to-11 c))) k l)
 
 abbrev to-counted : tie.Else4 → tie.Start
@@ -64,7 +64,7 @@ to-counted c = to-11 (c .before .before)
 
 entries : (c : tie.Else4) → hasEntries (fields (to-counted c)) ≡ true
 unfolding fieldsOf
-entries c = has-entries (to-counted c .args .m .contents .kind) (to-counted c .pre) (c .if4 .left)
+entries c = has-entries (to-counted c .args .m .body .kind) (to-counted c .pre) (c .if4 .left)
 
 abbrev to-15 : tie.Else5 → tie.Start
 to-15 c = to-counted (c .before .before)
@@ -85,12 +85,12 @@ unfolding fieldsOf
 past-16 c k l = past-15 (c .before .before .before) k (skip (on (counted (c .before .before .before)) (ap not (rw (c .before .before .request-number .ensures) at (eq-eqb _ _ (c .if6 .left))))) l)
 
 -- no row after 14 is for a p10cr, and none after 16 for a request
-no-entries : (s : tie.Start) → s .args .m .contents .kind ≡ 4 → Lowest (drop 7 (rows s)) pass
-unfolding fieldsOf check
+no-entries : (s : tie.Start) → s .args .m .body .kind ≡ 4 → Lowest (drop 7 (rows s)) pass
+unfolding fieldsOf lowestRow
 no-entries s e = skips (length (drop 7 (rows s))) (drop 7 (rows s)) (rw e) pass through
 
 no-more : (s : tie.Start) → Lowest (drop 9 (rows s)) pass
-unfolding check
+unfolding lowestRow
 no-more s = skips (length (drop 9 (rows s))) (drop 9 (rows s)) (rw (not-certConf s)) pass through
 
 pub request-refusal-spec : {M : Type 1} → statement M

@@ -1,11 +1,11 @@
 use Rattle.der.proofs.Auto.{tests}
-use Rattle.grammar.specs.Cursor.{smallOf}
-use Rattle.grammar.proofs.cursor.small.Statement.{statement}
-use Rattle.grammar.proofs.cursor.small.Tie as tie
+use Rattle.grammar.specs.Cursor.{smallIntegerOf}
+use Rattle.grammar.proofs.cursor.small_integer.Statement.{statement}
+use Rattle.grammar.proofs.cursor.small_integer.Tie as tie
 
-pub small-spec : {M : Type 1} → statement M
-unfolding smallOf
-small-spec = tie.close (tie.spec
+pub small-integer-spec : {M : Type 1} → statement M
+unfolding smallIntegerOf
+small-integer-spec = tie.close (tie.spec
     (λ c κs. search tests)
     (λ c κs. search tests)
     (λ c κs. search tests)

@@ -8,8 +8,8 @@ use Rattle.protocol.specs.EndEntityRows.{endEntityRows}
 use Rattle.protocol.proofs.Rows.{through, halt, skip}
 use Rattle.incoming.proofs.RowLaws.{lowest, Past}
 use Rattle.end_entity.proofs.RowLaws.{past-head, at-head}
-use Rattle.end_entity.proofs.rows.refusal.Statement.{statement}
-use Rattle.end_entity.proofs.rows.refusal.Tie as tie
+use Rattle.end_entity.proofs.rows.lowest_refusal.Statement.{statement}
+use Rattle.end_entity.proofs.rows.lowest_refusal.Tie as tie
 
 abbrev start : tie.After-head-refusal → tie.Start
 start c = c .before .before .before .before .before .before
@@ -84,9 +84,9 @@ past-21 : (c : tie.Else9) → Past 13 (rows (to-21 c))
 unfolding endEntityRows fieldsOf
 past-21 c k l = past-20 (c .before .before) k (skip (rw (to-20 (c .before .before) .before .status-or-0 .ensures) at (told (c .before .no-certificate .ensures) (c .if9 .left))) l)
 
-pub refusal-spec : {M : Type 1} → statement M
+pub lowest-refusal-spec : {M : Type 1} → statement M
 unfolding endEntityRows fieldsOf
-refusal-spec = tie.close (tie.spec
+lowest-refusal-spec = tie.close (tie.spec
     (λ c κs. search tests)
     (λ c κs. search tests)
     (λ c.
