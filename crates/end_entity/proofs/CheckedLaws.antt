@@ -18,7 +18,8 @@ use Rattle.protocol.specs.declared.EnrolmentState.the-variants.{Failed}
 use Rattle.protocol.specs.declared.EndEntityAnswer.{EndEntityAnswer}
 use Rattle.protocol.specs.declared.EndEntityInput.{EndEntityInput}
 use Rattle.protocol.specs.Bytes.{asNonce, bytesOf}
-use Rattle.protocol.specs.Message.{Fields, fieldsOf, optionalPart, partOf, isPresent, statusOr0}
+use Rattle.grammar.specs.Span.{partOf}
+use Rattle.protocol.specs.Message.{Fields, fieldsOf, optionalPart, isPresent, statusOr0}
 use Rattle.protocol.specs.States.{assured, brokenState}
 use Rattle.protocol.specs.Refusals.{Row, LowestRow, lowestRow, pass, notSixteen}
 use Rattle.protocol.specs.EndEntityRows.{endEntityRows}

@@ -19,7 +19,8 @@ use Rattle.grammar.specs.declared.parts.Each.the-variants.{Certificate}
 use Rattle.grammar.specs.declared.pki_header.HeaderRead.{HeaderRead}
 use Rattle.grammar.specs.declared.pki_body.BodyRead.{BodyRead}
 use Rattle.grammar.specs.Cursor.{isOk, headIn, tagAt, ifTag, needOf, doneOf, enterOf, leaveOf}
-use Rattle.grammar.specs.Parts.{spanFrom, outerSpan, wholeSpan, foundOf, sequenceOf, fieldOf, sequenceField}
+use Rattle.grammar.specs.Span.{spanFrom}
+use Rattle.grammar.specs.Parts.{outerSpan, wholeSpan, foundOf, sequenceOf, fieldOf, sequenceField}
 use Rattle.grammar.specs.Header.{headerOf}
 use Rattle.grammar.specs.Body.{bodyOf}
 use Rattle.grammar.specs.Message.{startAt, messageOf}

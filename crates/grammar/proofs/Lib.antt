@@ -1,3 +1,4 @@
+pub mod PartBytes
 pub mod CursorLaws
 pub mod PartsLaws
 pub mod EntryLaws
@@ -7,5 +8,6 @@ pub mod HeaderPlaces
 pub mod EntryPlaces
 pub mod BodyPlaces
 pub mod Found
+pub mod FaultPlace
 pub mod Spans
 pub mod Kept

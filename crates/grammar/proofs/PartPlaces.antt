@@ -12,7 +12,8 @@ use Rattle.grammar.specs.declared.parts.Each.{Each}
 use Rattle.grammar.specs.declared.parts.Each.the-variants.{Text, Certificate, Info}
 use Rattle.grammar.specs.declared.parts.Status.{Status}
 use Rattle.grammar.specs.Cursor.{tagAt, needOf, noneOf, enterOf, leaveOf, contentOf, leftAt}
-use Rattle.grammar.specs.Parts.{spanFrom, typedOf, oneOf, allBy, sequenceBy, sequenceOf, fieldOf, typedField, anyField, sequenceField, maybeText, lastBitSet, failInfoOf, statusOf, maybeStatus}
+use Rattle.grammar.specs.Span.{spanFrom}
+use Rattle.grammar.specs.Parts.{typedOf, oneOf, allBy, sequenceBy, sequenceOf, fieldOf, typedField, anyField, sequenceField, maybeText, lastBitSet, failInfoOf, statusOf, maybeStatus}
 use Rattle.grammar.proofs.CursorLaws.{untrue}
 use Rattle.grammar.proofs.Places.{Spot, wide, Went, Took, Goes, Steps, Takes, still, _then_, steps, need-takes, none-steps, at-done, at-leave, found-steps, Placed, took-kept, repeat-keeps}
 use Rattle.grammar.proofs.Places.Spot.{absent, present}

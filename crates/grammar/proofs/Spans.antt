@@ -6,7 +6,7 @@ use mathlib.Core.Logic.{inl, inr}
 use native.Mathlib.Omega.{arith}
 use Rattle.grammar.specs.declared.Span.{Span}
 use Rattle.grammar.specs.declared.Message.{Message}
-use Rattle.grammar.specs.Parts.{spanFrom}
+use Rattle.grammar.specs.Span.{spanFrom}
 use Rattle.grammar.proofs.Places.{Spot, wide}
 use Rattle.grammar.proofs.Places.Spot.{absent, present}
 use Rattle.grammar.proofs.PartPlaces.{Between}

@@ -13,7 +13,8 @@ use Rattle.grammar.specs.declared.entries.EntryKind.the-variants as of
 use Rattle.grammar.specs.declared.pki_body.Contents.{Contents}
 use Rattle.grammar.specs.declared.pki_body.BodyRead.{BodyRead}
 use Rattle.grammar.specs.Cursor.{tagAt, faultAt, needOf, anyOf, maybeOf, doneOf, enterOf, leaveOf}
-use Rattle.grammar.specs.Parts.{noSpan, foundSpan, wholeSpan, sequenceField, maybeText, statusOf}
+use Rattle.grammar.specs.Span.{noSpan}
+use Rattle.grammar.specs.Parts.{foundSpan, wholeSpan, sequenceField, maybeText, statusOf}
 use Rattle.grammar.specs.Entries.{noEntry, entriesOf, onlyOf}
 
 abbrev pub fromEntries : Cursor → Span → Entries → Contents

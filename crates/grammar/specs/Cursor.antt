@@ -9,6 +9,7 @@ use Rattle.der.specs.Head.{byte, headOf, packedOf}
 use Rattle.der.specs.declared.head.Head.{Head}
 use Rattle.der.specs.declared.head.Head.the-variants.{Bad, Whole}
 use Rattle.grammar.specs.declared.cursor.Cursor.{Cursor}
+use Rattle.grammar.specs.Span.{spanFrom, partOf}
 
 -- nothing is broken so far
 abbrev pub isOk : Cursor → Bool
@@ -75,13 +76,9 @@ enterOf c = cond (isOk c) (record { at = c .from; end = c .to; from = 0; to = 0;
 unfoldable pub leaveOf : Cursor → Cursor → Cursor
 leaveOf outer inner = cond (isOk inner) outer inner
 
--- the bytes from `start` on, `len` of them; none where the message has not so many
-unfoldable pub partOf : List ℕ → ℕ → ℕ → List ℕ
-partOf m start len = cond (ltb (length m) start || ltb (length m - start) len) [] (take len (drop start m))
-
 -- what the element read last holds
 unfoldable pub contentOf : List ℕ → Cursor → List ℕ
-contentOf m c = partOf m (c .from) (c .to - c .from)
+contentOf m c = partOf m (spanFrom (c .from) (c .to))
 
 -- bytes shifted into a number of 32 bits
 unfoldable pub shiftIn : ℕ → List ℕ → ℕ

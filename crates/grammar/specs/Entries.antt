@@ -11,7 +11,8 @@ use Rattle.grammar.specs.declared.entries.Entries.{Entries}
 use Rattle.grammar.specs.declared.entries.EntryKind.{EntryKind}
 use Rattle.grammar.specs.declared.entries.EntryKind.the-variants as of
 use Rattle.grammar.specs.Cursor.{tagAt, needOf, anyOf, noneOf, maybeOf, doneOf, enterOf, leaveOf, valueOf, smallIntegerOf, leftAt, repeat}
-use Rattle.grammar.specs.Parts.{noSpan, foundSpan, wholeSpan, foundOf, anyField, typedField, statusOf, maybeStatus}
+use Rattle.grammar.specs.Span.{noSpan}
+use Rattle.grammar.specs.Parts.{foundSpan, wholeSpan, foundOf, anyField, typedField, statusOf, maybeStatus}
 
 abbrev pub noEntry : Entry
 noEntry = record { number = 0; «has_status» = false; status = 0; «cert_hash» = noSpan; «hash_alg» = noSpan; certificate = noSpan; request = noSpan }

@@ -1,3 +1,4 @@
+pub mod Span
 pub mod Cursor
 pub mod Parts
 pub mod Header

@@ -11,17 +11,10 @@ use Rattle.grammar.specs.declared.cursor.Cursor.{Cursor}
 use Rattle.grammar.specs.declared.parts.Each.{Each}
 use Rattle.grammar.specs.declared.parts.Each.the-variants.{Text, Certificate, Info}
 use Rattle.grammar.specs.declared.parts.Status.{Status}
+use Rattle.grammar.specs.Span.{spanFrom, noSpan}
 use Rattle.grammar.specs.Cursor.{isOk, tagAt, faultAt, needOf, anyOf, noneOf, restOf, doneOf, enterOf, leaveOf, contentOf, valueOf, smallIntegerOf, leftAt, repeat}
 
 -- ## Spans
-
--- from one offset up to another
-abbrev pub spanFrom : ℕ → ℕ → Span
-spanFrom a b = record { start = record { 0 = a }; len = b - a }
-
--- an absent part
-abbrev pub noSpan : Span
-noSpan = spanFrom 0 0
 
 -- the content of the element read last
 abbrev pub foundSpan : Cursor → Span

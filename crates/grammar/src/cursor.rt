@@ -1,10 +1,11 @@
 // A cursor over a message, and the verbs that every grammar rule is made of. A fault sticks: each verb hands a faulty cursor on.
-use crate::part_at;
+use crate::part_of;
+use crate::parts::found_span;
 use der::head;
 ghost use mathlib.Core.Path.{_≡_};
 ghost use Prim.Native.Nat.{_+_, _-_, _^_, _<_};
 ghost use lib.ListN.{take, drop};
-ghost use Rattle.grammar.specs.Cursor.{taggedOf, tagAt, faultAt, pastOf, needOf, anyOf, noneOf, maybeOf, restOf, doneOf, enterOf, leaveOf, partOf, contentOf, valueOf, smallIntegerOf, moreAt, shiftIn, signed32};
+ghost use Rattle.grammar.specs.Cursor.{taggedOf, tagAt, faultAt, pastOf, needOf, anyOf, noneOf, maybeOf, restOf, doneOf, enterOf, leaveOf, contentOf, valueOf, smallIntegerOf, moreAt, shiftIn, signed32};
 
 // Where the next element is sought and where its parent ends; what the last one held; and the rule that is broken where the
 // cursor stands, 0 while all is right.
@@ -178,7 +179,7 @@ pub(crate) fn distance(a: usize, b: usize) -> usize
 pub(crate) fn content(m: &[u8], c: Cursor) -> &[u8]
     ensures { λ r. ⌜ now r ≡ contentOf (now (m .entry)) c ⌝ }
 {
-    part_at(m, c.from, distance(c.from, c.to))
+    part_of(m, found_span(c))
 }
 
 // A number in two's complement, as its low 32 bits.

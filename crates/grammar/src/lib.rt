@@ -7,7 +7,7 @@ mod pki_header;
 pub mod pki_message;
 
 ghost use mathlib.Core.Path.{_≡_};
-ghost use Rattle.grammar.specs.Cursor.{partOf};
+ghost use Rattle.grammar.specs.Span.{partOf};
 
 // A byte's place in the message.
 pub struct Offset(pub usize);
@@ -69,17 +69,20 @@ pub struct Message {
     pub body: Body,
 }
 
-// The bytes from `start` on, `len` of them; none where the message has not so many.
-pub fn part_at(m: &[u8], start: usize, len: usize) -> &[u8]
-    ensures { λ r. ⌜ now r ≡ partOf (now (m .entry)) start len ⌝ }
+// The part of the message that a span names: as much of it as the message has.
+pub fn part_of(message: &[u8], span: Span) -> &[u8]
+    ensures { λ r. ⌜ now r ≡ partOf (now (message .entry)) span ⌝ }
 {
-    let n = m.len();
-    if n < start {
-        return &m[0..0];
+    let start = span.start;
+    let from = start.0;
+    let len = span.len;
+    let n = message.len();
+    if n <= from {
+        return &message[0..0];
     }
-    if n - start < len {
-        return &m[0..0];
+    if n - from <= len {
+        return &message[from..];
     }
-    let end = start + len;
-    &m[start..end]
+    let end = from + len;
+    &message[from..end]
 }

@@ -18,7 +18,8 @@ use crate::cursor::tag_at;
 use crate::cursor::value;
 ghost use mathlib.Core.Path.{_≡_};
 ghost use Rattle.grammar.specs.Cursor.{needOf};
-ghost use Rattle.grammar.specs.Parts.{spanFrom, foundSpan, wholeSpan, outerSpan, foundOf, typedOf, allBy, sequenceBy, sequenceOf, fieldOf, typedField, anyField, sequenceField, maybeText, lastBitSet, failInfoOf, statusOf, maybeStatus};
+ghost use Rattle.grammar.specs.Span.{spanFrom};
+ghost use Rattle.grammar.specs.Parts.{foundSpan, wholeSpan, outerSpan, foundOf, typedOf, allBy, sequenceBy, sequenceOf, fieldOf, typedField, anyField, sequenceField, maybeText, lastBitSet, failInfoOf, statusOf, maybeStatus};
 
 // What a SEQUENCE OF holds.
 pub enum Each {

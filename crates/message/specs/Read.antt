@@ -7,12 +7,11 @@ use lib.Dec.{ltb, eqb}
 use Rattle.der.specs.Element.{check}
 use Rattle.der.specs.declared.element.Check.{Check}
 use Rattle.der.specs.declared.element.Check.the-variants.{Sound, Fault}
-use Rattle.grammar.specs.declared.Span.{Span}
 use Rattle.grammar.specs.declared.Message.{Message}
 use Rattle.message.specs.declared.Reading.{Reading}
 use Rattle.message.specs.declared.Reading.the-variants.{Clean, Refused}
 use Rattle.grammar.specs.declared.pki_message.MessageRead.{MessageRead}
-use Rattle.grammar.specs.Cursor.{isOk, partOf}
+use Rattle.grammar.specs.Cursor.{isOk}
 use Rattle.grammar.specs.Message.{messageOf}
 
 -- messages of 1 to 16,384 bytes
@@ -34,12 +33,6 @@ lowest (Fault at rule) g = cond (isOk (g .cur)) (brokenAt at rule) (cond (ltb (g
 
 unfoldable pub readingOf : List ℕ → Reading
 readingOf m = cond (eqb (length m) 0 || ltb maxMessage (length m)) badLength (lowest (check m) (messageOf m))
-
--- ## Parts of the caller's bytes
-
--- the bytes of a span; none where the message has not so many
-abbrev pub spanBytes : List ℕ → Span → List ℕ
-spanBytes m s = partOf m (s .start .0) (s .len)
 
 -- the content length of the protected part, the DER SEQUENCE of header and body (RFC 9810 5.1.3); 0 where one of the two is longer than a message may be
 unfoldable pub protectedLength : Message → ℕ

@@ -3,12 +3,12 @@ use der::element::Check;
 use der::element::check_elements;
 use grammar::Message;
 use grammar::Offset;
-use grammar::Span;
-use grammar::part_at;
+use grammar::part_of;
 use grammar::pki_message::MessageRead;
 use grammar::pki_message::read_message;
 ghost use mathlib.Core.Path.{_≡_};
-ghost use Rattle.message.specs.Read.{badLength, brokenAt, lowest, readingOf, spanBytes, protectedLength};
+ghost use Rattle.grammar.specs.Span.{partOf};
+ghost use Rattle.message.specs.Read.{badLength, brokenAt, lowest, readingOf, protectedLength};
 
 // The longest message, in bytes.
 pub const MAX_MESSAGE: usize = 16384;
@@ -89,42 +89,34 @@ fn too_short_or_long() -> Reading
     })
 }
 
-// The part of the caller's bytes that a span names; empty for an absent one, and where the message has not so many bytes.
-pub fn part(message: &[u8], span: Span) -> &[u8]
-    ensures { λ r. ⌜ now r ≡ spanBytes (now (message .entry)) span ⌝ }
-{
-    let start = span.start;
-    part_at(message, start.0, span.len)
-}
-
 // The header, the whole element.
 pub fn header_part(message: &[u8], found: Message) -> &[u8]
-    ensures { λ r. ⌜ now r ≡ spanBytes (now (message .entry)) (found .«header_span») ⌝ }
+    ensures { λ r. ⌜ now r ≡ partOf (now (message .entry)) (found .«header_span») ⌝ }
 {
-    part(message, found.header_span)
+    part_of(message, found.header_span)
 }
 
 // The body, the whole element.
 pub fn body_part(message: &[u8], found: Message) -> &[u8]
-    ensures { λ r. ⌜ now r ≡ spanBytes (now (message .entry)) (found .«body_span») ⌝ }
+    ensures { λ r. ⌜ now r ≡ partOf (now (message .entry)) (found .«body_span») ⌝ }
 {
-    part(message, found.body_span)
+    part_of(message, found.body_span)
 }
 
 // The protection, the whole element [0].
 pub fn protection_part(message: &[u8], found: Message) -> &[u8]
-    ensures { λ r. ⌜ now r ≡ spanBytes (now (message .entry)) (found .protection) ⌝ }
+    ensures { λ r. ⌜ now r ≡ partOf (now (message .entry)) (found .protection) ⌝ }
 {
-    part(message, found.protection)
+    part_of(message, found.protection)
 }
 
 // The plain certificate of the only response.
 pub fn certificate_part(message: &[u8], found: Message) -> &[u8]
-    ensures { λ r. ⌜ now r ≡ spanBytes (now (message .entry)) (found .body .entry .certificate) ⌝ }
+    ensures { λ r. ⌜ now r ≡ partOf (now (message .entry)) (found .body .entry .certificate) ⌝ }
 {
     let body = found.body;
     let entry = body.entry;
-    part(message, entry.certificate)
+    part_of(message, entry.certificate)
 }
 
 // How long the content of the protected part is: the DER SEQUENCE of header and body.

@@ -1,4 +1,4 @@
--- For the proofs of code: parts that reach past the message's end, and copies and comparisons byte by byte.
+-- For the proofs of code: copies and comparisons byte by byte.
 use Prim.Native.Nat.{ℕ, suc, _+_, _-_, _<_, _≤_}
 use mathlib.Core.List.{List, [], _∷_}
 use mathlib.Core.Bool.{Bool, true, false, cond, _&&_}
@@ -11,22 +11,11 @@ use lib.Dec.{eqb, eqb-refl}
 use mathlib.Core.Option.{none, some}
 use Rattle.grammar.specs.declared.Span.{Span}
 use Rattle.protocol.specs.Bytes.{sameBytes, bytesOf}
-use Rattle.protocol.specs.Message.{isPresent, partOf, optionalPart}
+use Rattle.grammar.specs.Span.{partOf}
+use Rattle.protocol.specs.Message.{isPresent, optionalPart}
 use Rattle.protocol.specs.Refusals.{notSixteen}
 use Rattle.protocol.proofs.Tests.{T→true, other-than, true-false, not-false}
 use Rattle.parts.specs.Parts.{sixteenOf}
-
--- ## Parts
-
--- past the end there is nothing
-pub beyond : (m : List ℕ) (from len : ℕ) → length m ≤ from → [] ≡ take len (drop from m)
-beyond m from len h = rw (drop-of-length-le m h, take-nil)
-
--- a part that is longer than what is left is all that is left
-pub to-end : (m : List ℕ) (from len : ℕ) → length m - from ≤ len → take (length m - from) (drop from m) ≡ take len (drop from m)
-to-end m from len h =
-    let e : length (drop from m) ≡ length m - from = length-drop from m in
-    take-all (length m - from) (drop from m) (omega arith) ∙ sym (take-all len (drop from m) (omega arith))
 
 -- ## Copies and comparisons
 

@@ -1,11 +1,13 @@
 // The parts of a message that the steps compare or keep: ids, nonces and hashes.
 use grammar::Span;
+use grammar::part_of;
 use protocol::Hash;
 use protocol::Nonce;
 use protocol::TransactionId;
 ghost use mathlib.Core.Path.{_≡_};
 ghost use Rattle.protocol.specs.Bytes.{sameBytes, sameId, isId, isNonce};
-ghost use Rattle.protocol.specs.Message.{isPresent, partOf, optionalPart};
+ghost use Rattle.grammar.specs.Span.{partOf};
+ghost use Rattle.protocol.specs.Message.{isPresent, optionalPart};
 ghost use Rattle.protocol.specs.Refusals.{notSixteen};
 ghost use Rattle.parts.specs.Parts.{sixteenOf};
 
@@ -18,24 +20,6 @@ pub fn is_present(span: Span) -> bool
         return false;
     }
     true
-}
-
-// The part of the message that a span names: as much of it as the message has.
-fn part_of(message: &[u8], span: Span) -> &[u8]
-    ensures { λ r. ⌜ now r ≡ partOf (now (message .entry)) span ⌝ }
-{
-    let start = span.start;
-    let from = start.0;
-    let len = span.len;
-    let n = message.len();
-    if n <= from {
-        return &message[0..0];
-    }
-    if n - from <= len {
-        return &message[from..];
-    }
-    let end = from + len;
-    &message[from..end]
 }
 
 // The one comparison of bytes: ids, nonces and hashes are the same where these are.

@@ -11,6 +11,7 @@ use borrow.Author.Tests.{eqb-true}
 use lib.ListN.{length, take, drop, length-take, length-drop}
 use lib.Seq.{take-take, take-all}
 use lib.Dec.{eqb}
+use Rattle.grammar.specs.Span.{partOf, spanFrom}
 use Rattle.der.specs.Head.{headOf}
 use Rattle.der.specs.declared.head.Head.{Head}
 use Rattle.der.specs.declared.head.Head.the-variants.{Bad, Whole}
@@ -21,9 +22,9 @@ use Rattle.grammar.proofs.CursorLaws.{untrue}
 use Rattle.paths.specs.Walk.{Node, Step, Path, withHead, elementsUpTo, elementsBetween, first, tagged, seek, alone, choose, into, onward, either, walk}
 use Rattle.paths.specs.Walk.Step.{any, item, option, only}
 use Rattle.paths.specs.Walk.Path.{message, _▸_, _or_}
-use Rattle.paths.specs.Table.{Part, Place, placeOf, pathIn, spanFrom, wholeAt, contentSpan, spanAt}
+use Rattle.paths.specs.Table.{Part, Place, placeOf, pathIn, wholeAt, contentSpan, spanAt}
 use Rattle.paths.specs.Table.Place.{whole, content}
-use Rattle.paths.specs.InPlace.{bytesOf, OneElement, OneIfThere}
+use Rattle.paths.specs.InPlace.{OneElement, OneIfThere}
 use Rattle.paths.proofs.Heads.{cut}
 
 -- ## Where the elements of a walk stand
@@ -248,7 +249,7 @@ walk-tag m t (p or q) e =
 
 -- ## One element
 
-stands-one : (m : List ℕ) (a : ℕ) (n : Node) → Stands m a n → OneElement (n .tag) (bytesOf m (spanFrom (n .at) (n .to)))
+stands-one : (m : List ℕ) (a : ℕ) (n : Node) → Stands m a n → OneElement (n .tag) (partOf m (spanFrom (n .at) (n .to)))
 stands-one m a n s =
     record {
       start = n .from - n .at;
@@ -260,17 +261,17 @@ stands-one m a n s =
 -- a message that ends with the bytes is one element
 pub root-one : (m : List ℕ) {n : Node} → walk m message ≡ some n → n .at ≡ 0 → n .to ≡ length m → OneElement (n .tag) m
 root-one m {n} e a z =
-    let all : bytesOf m (spanFrom (n .at) (n .to)) ≡ m = rw (a, z) (take-all (length m - 0) m (omega arith)) in
+    let all : partOf m (spanFrom (n .at) (n .to)) ≡ m = rw (a, z) (take-all (length m - 0) m (omega arith)) in
     subst (OneElement (n .tag)) all (stands-one m 0 n (subst (Maybe m 0) e (walk-stands m message)))
 
 -- what a path inside the message leads to is one element
-pub one-at : (m : List ℕ) (p : Path) → deep p ≡ true → {n : Node} → walk m p ≡ some n → OneElement (n .tag) (bytesOf m (spanFrom (n .at) (n .to)))
+pub one-at : (m : List ℕ) (p : Path) → deep p ≡ true → {n : Node} → walk m p ≡ some n → OneElement (n .tag) (partOf m (spanFrom (n .at) (n .to)))
 one-at m p d {n} e = stands-one m 1 n (subst (Maybe m 1) e (walk-deep m p d))
 
 -- a part that is handed back whole is one, where it is there, with the tag that its path asks for
 if-there : (m : List ℕ) (t : ℕ) (o : Option Node) → Maybe m 1 o → Tagged t o → OneIfThere t m (wholeAt o)
 if-there m t none w g k = absurd (k refl)
-if-there m t (some n) w g k = subst (λ (j : ℕ). OneElement j (bytesOf m (spanFrom (n .at) (n .to)))) g (stands-one m 1 n w)
+if-there m t (some n) w g k = subst (λ (j : ℕ). OneElement j (partOf m (spanFrom (n .at) (n .to)))) g (stands-one m 1 n w)
 
 pub one-if-there : (m : List ℕ) (t : ℕ) (p : Path) → deep p ≡ true → endsIn t p ≡ true → {s : Span} → s ≡ wholeAt (walk m p) → OneIfThere t m s
 one-if-there m t p d e q = subst (OneIfThere t m) (sym q) (if-there m t (walk m p) (walk-deep m p d) (walk-tag m t p e))

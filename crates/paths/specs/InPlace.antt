@@ -8,6 +8,7 @@ use lib.ListN.{length, take, drop}
 use Rattle.der.specs.Head.{headOf}
 use Rattle.der.specs.declared.head.Head.the-variants.{Whole}
 use Rattle.grammar.specs.declared.Span.{Span}
+use Rattle.grammar.specs.Span.{partOf}
 use Rattle.grammar.specs.declared.Message.{Message}
 use Rattle.message.specs.declared.Reading.the-variants.{Clean}
 use Rattle.message.specs.Read.{readingOf}
@@ -45,10 +46,6 @@ AsTheStandardSays = (m : List ℕ) (x : Message) → readingOf m ≡ Clean x →
 
 -- ## Every part that is an element, whole
 
--- the bytes of a span
-abbrev pub bytesOf : List ℕ → Span → List ℕ
-bytesOf m s = take (s .len) (drop (s .start .0) m)
-
 -- s is one element with this tag: it begins with a head of `start` bytes, and the content ends where s ends
 pub record OneElement (tag : ℕ) (s : List ℕ) : Type 0 where
   pub start : ℕ
@@ -73,16 +70,16 @@ OneName s = (tag : ℕ) × NameTag tag × OneElement tag s
 
 -- a part that is there is one element with this tag
 abbrev pub OneIfThere : ℕ → List ℕ → Span → Type 0
-OneIfThere tag m s = s .start .0 ≢ 0 → OneElement tag (bytesOf m s)
+OneIfThere tag m s = s .start .0 ≢ 0 → OneElement tag (partOf m s)
 
 pub record WholeElements (m : List ℕ) (x : Message) : Type 0 where
   -- the message itself: nothing stands before it or after it
   pub message : OneElement SEQUENCE m
   -- what every message has
-  pub header : OneElement SEQUENCE (bytesOf m (x .«header_span»))
-  pub body : OneElement (context (x .body .kind)) (bytesOf m (x .«body_span»))
-  pub sender : OneName (bytesOf m (x .header .sender))
-  pub recipient : OneName (bytesOf m (x .header .recipient))
+  pub header : OneElement SEQUENCE (partOf m (x .«header_span»))
+  pub body : OneElement (context (x .body .kind)) (partOf m (x .«body_span»))
+  pub sender : OneName (partOf m (x .header .sender))
+  pub recipient : OneName (partOf m (x .header .recipient))
   -- what it may have
   pub protection : OneIfThere (context 0) m (x .protection)
   pub extraCerts : OneIfThere (context 1) m (x .«extra_certs»)
@@ -94,7 +91,7 @@ pub record WholeElements (m : List ℕ) (x : Message) : Type 0 where
   pub certificate : OneIfThere SEQUENCE m (x .body .entry .certificate)
   -- the request: a CertReqMsg, or in a p10cr (4), which always has it, an element with any tag
   pub request : x .body .kind ≢ 4 → OneIfThere SEQUENCE m (x .body .entry .request)
-  pub p10cr : x .body .kind ≡ 4 → (tag : ℕ) × OneElement tag (bytesOf m (x .body .entry .request))
+  pub p10cr : x .body .kind ≡ 4 → (tag : ℕ) × OneElement tag (partOf m (x .body .entry .request))
 
 -- THE THEOREM: `all-whole` in proofs/Theorem.antt
 abbrev pub AllWhole : Type 0

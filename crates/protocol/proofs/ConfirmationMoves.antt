@@ -24,7 +24,8 @@ use Rattle.protocol.specs.declared.Outcome.the-variants as outcome
 use Rattle.protocol.specs.declared.Verdict.the-variants.{Bad, Good}
 use Rattle.protocol.specs.declared.TransactionState.the-variants as at-registrar
 use Rattle.protocol.specs.Bytes.{asId}
-use Rattle.protocol.specs.Message.{isPresent, partOf, optionalPart, Fields, fieldsOf, statusOr0, optionalStatus, isEnrolmentKind}
+use Rattle.grammar.specs.Span.{partOf}
+use Rattle.protocol.specs.Message.{isPresent, optionalPart, Fields, fieldsOf, statusOr0, optionalStatus, isEnrolmentKind}
 use Rattle.protocol.specs.Table.{lookup}
 use Rattle.protocol.specs.States.{settledBy, isGranted}
 use Rattle.protocol.specs.Refusals.{notSixteen, LowestRow, lowestRow, pass, stop}

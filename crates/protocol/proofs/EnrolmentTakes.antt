@@ -15,7 +15,8 @@ use Rattle.protocol.specs.declared.Enrolment.{Enrolment}
 use Rattle.protocol.specs.declared.EndEntityAnswer.{EndEntityAnswer}
 use Rattle.protocol.specs.declared.EnrolmentState.the-variants.{Asked, Confirming, Declining, Sure, Declined, Failed, Unsettled}
 use Rattle.protocol.specs.declared.Outcome.the-variants as outcome
-use Rattle.protocol.specs.Message.{isResponse, responseTo, Fields, fieldsOf, isPresent, partOf, statusOr0, optionalStatus}
+use Rattle.grammar.specs.Span.{partOf}
+use Rattle.protocol.specs.Message.{isResponse, responseTo, Fields, fieldsOf, isPresent, statusOr0, optionalStatus}
 use Rattle.protocol.specs.States.{isWaiting, isConfirming}
 use Rattle.protocol.specs.Refusals.{Row, LowestRow, lowestRow, pass, stop}
 use Rattle.protocol.specs.EndEntityRows.{endEntityRows, responds, acknowledges, reports, oneResponse, hasStatus}

@@ -22,7 +22,8 @@ use Rattle.protocol.specs.declared.Verdict.the-variants.{Bad, Good}
 use Rattle.protocol.specs.declared.TransactionState.the-variants as at-registrar
 use Rattle.protocol.specs.declared.Outcome.the-variants as outcome
 use Rattle.protocol.specs.Bytes.{present, asId, asNonce, noNonce, noHash}
-use Rattle.protocol.specs.Message.{optionalPart, partOf, Fields, fieldsOf, isPresent, isEnrolmentKind}
+use Rattle.grammar.specs.Span.{partOf}
+use Rattle.protocol.specs.Message.{optionalPart, Fields, fieldsOf, isPresent, isEnrolmentKind}
 use Rattle.protocol.specs.Table.{put, lookup, hasFreeSlot, freeSlot}
 use Rattle.protocol.specs.Refusals.{lowestRow, Row, pass, LowestRow, stop, otherVersion, noTransactionId, noSenderNonce, unprotected}
 use Rattle.protocol.specs.RegistrarRows.{isGood, registrarRows, oneEntry, hasEntries, opens, confirms, opensWithNonce}

@@ -16,7 +16,8 @@ use Rattle.protocol.specs.declared.TransactionTable.{TransactionTable}
 use Rattle.protocol.specs.declared.Enrolment.{Enrolment}
 use Rattle.protocol.specs.declared.Outgoing.{Outgoing}
 use Rattle.protocol.specs.declared.EndEntityAnswer.{EndEntityAnswer}
-use Rattle.protocol.specs.Message.{Fields, partOf, optionalStatus, fieldsOf, optionalPart, isPresent}
+use Rattle.grammar.specs.Span.{partOf}
+use Rattle.protocol.specs.Message.{Fields, optionalStatus, fieldsOf, optionalPart, isPresent}
 use Rattle.protocol.specs.Refusals.{lowestRow}
 use Rattle.protocol.specs.Registrar.{registrarFields, registrarMessage}
 use Rattle.protocol.specs.EndEntityRows.{endEntityRows}

@@ -3,10 +3,10 @@ use Prim.Native.Nat.{ℕ}
 use mathlib.Core.List.{List}
 use mathlib.Core.Bool.{Bool, true, false, not, cond, _&&_, _||_}
 use mathlib.Core.Option.{Option, none, some}
-use lib.ListN.{take, drop}
 use lib.Dec.{eqb}
 use Rattle.grammar.specs.declared.Span.{Span}
 use Rattle.grammar.specs.declared.Message.{Message}
+use Rattle.grammar.specs.Span.{partOf}
 use Rattle.protocol.specs.declared.Hash.{Hash}
 
 -- ## Kinds
@@ -56,10 +56,6 @@ pub record Fields : Type 0 where
 -- a span that starts at 0 is absent
 abbrev pub isPresent : Span → Bool
 isPresent s = not (eqb (s .start .0) 0)
-
--- the part of the message that the span names
-abbrev pub partOf : List ℕ → Span → List ℕ
-partOf bytes s = take (s .len) (drop (s .start .0) bytes)
 
 abbrev pub optionalPart : List ℕ → Span → Option (List ℕ)
 optionalPart bytes s = cond (isPresent s) (some (partOf bytes s)) none

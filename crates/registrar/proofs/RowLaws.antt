@@ -9,7 +9,8 @@ use lib.Dec.{eqb}
 use Rattle.grammar.specs.declared.Span.{Span}
 use Rattle.protocol.specs.declared.Transaction.{Transaction}
 use Rattle.protocol.specs.Bytes.{present}
-use Rattle.protocol.specs.Message.{isEnrolmentKind, isPresent, partOf, optionalPart}
+use Rattle.grammar.specs.Span.{partOf}
+use Rattle.protocol.specs.Message.{isEnrolmentKind, isPresent, optionalPart}
 use Rattle.protocol.specs.RegistrarRows.{isKnown}
 use Rattle.protocol.proofs.Tests.{true-false, eqb-eq}
 use Rattle.registrar.specs.Steps.{foundBy}

@@ -25,7 +25,8 @@ use Rattle.protocol.specs.declared.RegistrarInput.{RegistrarInput}
 use Rattle.protocol.specs.declared.Outgoing.{Outgoing}
 use Rattle.protocol.specs.declared.RegistrarAnswer.{RegistrarAnswer}
 use Rattle.protocol.specs.Bytes.{asId, asNonce, noNonce, noHash}
-use Rattle.protocol.specs.Message.{Fields, fieldsOf, partOf, statusOr0}
+use Rattle.grammar.specs.Span.{partOf}
+use Rattle.protocol.specs.Message.{Fields, fieldsOf, statusOr0}
 use Rattle.protocol.specs.Outgoing.{pkiConfOut}
 use Rattle.protocol.specs.Table.{lookup, slotOf, freeSlot, put, freeTransaction}
 use Rattle.protocol.specs.States.{isGranted, isConfirmed, settledState}

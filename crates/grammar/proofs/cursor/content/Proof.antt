@@ -1,4 +1,6 @@
+use mathlib.Core.Path.{_∙_, ap}
 use Rattle.der.proofs.Auto.{tests}
+use Rattle.grammar.specs.Span.{partOf}
 use Rattle.grammar.specs.Cursor.{contentOf}
 use Rattle.grammar.proofs.cursor.content.Statement.{statement}
 use Rattle.grammar.proofs.cursor.content.Tie as tie
@@ -8,4 +10,4 @@ unfolding contentOf
 content-spec = tie.close (tie.spec
     (λ c κs. search tests)
     (λ c κs. search tests)
-    (λ c. search (tests, ← c .part-at .ensures, ← c .before .distance .ensures)))
+    (λ c. c .part-of .ensures ∙ ap (partOf (c .before .before .before .args .m .now)) (c .before .found-span .ensures)))

@@ -1,9 +1,9 @@
 -- What reaches past the end is cut off there.
 use native.Mathlib.Nat.{add-sub-cancel-left}
 use Rattle.der.proofs.Auto.{tests}
-use Rattle.parts.proofs.Laws.{beyond, to-end}
-use Rattle.parts.proofs.part_of.Statement.{statement}
-use Rattle.parts.proofs.part_of.Tie as tie
+use Rattle.grammar.proofs.PartBytes.{beyond, to-end}
+use Rattle.grammar.proofs.part_of.Statement.{statement}
+use Rattle.grammar.proofs.part_of.Tie as tie
 
 pub part-of-spec : {M : Type 1} → statement M
 part-of-spec = tie.close (tie.spec
