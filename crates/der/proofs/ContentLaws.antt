@@ -10,7 +10,8 @@ use native.Mathlib.Numerals.{add-one, sub-one}
 use lib.ListN.{length, getD, drop, drop-of-length-le}
 use lib.Seq.{drop-cons}
 use lib.Dec.{ltb, leb, eqb}
-use Rattle.der.specs.Content.{booleanOk, integerOk, arcsOk, at80, has80, begins, contentOk}
+use Rattle.der.specs.Content.{booleanOk, integerOk, arcsOk, contentOk}
+use Rattle.der.specs.Code.{at80, has80, begins}
 use Rattle.der.proofs.Auto.{or-false-left, or-false-right}
 
 -- after a byte another arc begins or it goes on

@@ -10,7 +10,8 @@ use lib.ListN.{length, getD, take, drop, length-take}
 use lib.Dec.{ltb, leb, eqb, lit≤, lit<}
 use Rattle.der.specs.declared.head.Head.{Head}
 use Rattle.der.specs.declared.head.Head.the-variants.{Bad, Whole}
-use Rattle.der.specs.Head.{byte, tagOk, inside, lengthOf, oneByte, twoBytes, headOf, packedOf, fitOf, brokenRule}
+use Rattle.der.specs.Head.{byte, tagOk, inside, lengthOf, length81, length82, headOf}
+use Rattle.der.specs.Code.{packedOf, fitOf, brokenRule}
 
 -- what holds in each case of a test, under that case
 pub cond-both {ℓ ℓ′} : {A : Type ℓ} (P : A → Type ℓ′) (b : Bool) {x y : A} → (b ≡ true → P x) → (b ≡ false → P y) → P (cond b x y)
@@ -35,7 +36,7 @@ unfolding inside HeadIn
 inside-in n tag start len h k = cond-both (HeadIn n) (leb (start + len) n) (λ e. (h, k, leb-true _ _ e)) (λ e. tt)
 
 length-in : (s : List ℕ) → HeadIn (length s) (lengthOf s)
-unfolding lengthOf oneByte twoBytes
+unfolding lengthOf length81 length82
 length-in s =
     let P : Head → Type 0 = HeadIn (length s) in
     let bad : P (Bad 2) = bad-in (length s) 2 in
@@ -77,7 +78,7 @@ unfolding inside Packs
 inside-packs r s start len b h k = cond-both (Packs r s) (leb (start + len) (length s)) (λ e. (refl, h, k)) (λ e. sym b)
 
 length-packs : (r : ℕ) (s : List ℕ) → r ≡ 2 → Packs r s (lengthOf s)
-unfolding lengthOf oneByte twoBytes Packs
+unfolding lengthOf length81 length82 Packs
 length-packs r s b =
     let P : Head → Type 0 = Packs r s in
     let bad : P (Bad 2) = sym b in

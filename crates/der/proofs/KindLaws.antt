@@ -13,9 +13,10 @@ use Rattle.der.specs.declared.head.Head.{Head}
 use Rattle.der.specs.declared.head.Head.the-variants.{Bad, Whole}
 use Rattle.der.specs.declared.element.Element.{Element}
 use Rattle.der.specs.declared.element.Element.the-variants.{Primitive, Constructed, Faulty}
-use Rattle.der.specs.Head.{byte, tagOk, inside, lengthOf, headOf, packedOf}
+use Rattle.der.specs.Head.{byte, tagOk, inside, lengthOf, headOf}
 use Rattle.der.specs.Content.{contentOk}
-use Rattle.der.specs.Element.{constructed, formOk, judge, elementOf, kindOf, kindIn, ruleOf}
+use Rattle.der.specs.Element.{constructed, formOk, judge, elementOf}
+use Rattle.der.specs.Code.{packedOf, kindOf, kindIn, ruleOf}
 use Rattle.der.proofs.ContentLaws.{itself, content-opaque}
 use Rattle.der.proofs.HeadLaws.{cond-case, length-whole, length-bad, length-fits}
 
@@ -59,6 +60,10 @@ module _ (tag : ℕ) (c : List ℕ) where
   unfolding kindOf tagOk formOk
   kind-sequence e = ap (λ (t : ℕ). kindOf t c) e
 
+  pub kind-set : tag ≡ 49 → kindOf tag c ≡ 1
+  unfolding kindOf tagOk formOk
+  kind-set e = ap (λ (t : ℕ). kindOf t c) e
+
   low-zero : tag ≡ 0 → kindOf tag c ≡ cond (not (eqb tag 0) && contentOk tag c) 0 2
   unfolding kindOf tagOk
   low-zero e = subst (λ (t : ℕ). kindOf t c ≡ cond (not (eqb t 0) && contentOk t c) 0 2) (sym e) refl
@@ -86,6 +91,12 @@ module _ (tag : ℕ) (c : List ℕ) where
 
   pub kind-form : 6 < tag → (tag % 32 ≡ 31 → ⊥) → kindOf tag c ≡ cond (formOk tag) (cond (constructed tag) 1 0) 2
   kind-form h n = formed (formOk tag) refl h n
+
+  -- the primitives from 7 to 15
+  pub kind-opaque : 6 < tag → tag < 16 → kindOf tag c ≡ 0
+  kind-opaque h l =
+      let low : tag < 32 = omega arith in
+      kind-form h (λ e. omega (arith, mod-eq-of-lt low)) ∙ simp (form-low tag low, constructed-low tag low, ne-eqb tag 16 (λ e. omega arith), ne-eqb tag 17 (λ e. omega arith))
 
 -- ## The element that s begins with, by what was read of its length
 
@@ -123,7 +134,7 @@ read-long s {p} e = go (eqb p 0) refl
 abbrev pub ofKind : ℕ → List ℕ → ℕ → ℕ → ℕ → Element
 ofKind d s start len k = cond (eqb k 2) (Faulty (ruleOf d (headOf s))) (cond (eqb k 0) (Primitive (start + len)) (Constructed start len))
 
-bad-length : (d : ℕ) (s : List ℕ) → lengthOf s ≡ Bad 2 → elementOf d s ≡ Faulty (ruleOf d (headOf s))
+pub bad-length : (d : ℕ) (s : List ℕ) → lengthOf s ≡ Bad 2 → elementOf d s ≡ Faulty (ruleOf d (headOf s))
 unfolding elementOf headOf judge ruleOf
 bad-length d s e =
     let P : Head → Type 0 = λ (h : Head). judge d s h ≡ Faulty (ruleOf d h) in
@@ -157,6 +168,12 @@ module _ (d : ℕ) (s : List ℕ) (start len : ℕ) (r : Read s start len) (leve
 
   pub element-kind : elementOf d s ≡ ofKind d s start len (kindIn s start len)
   element-kind = by-fit (eqb start 0) (ltb (length s) (start + len)) refl refl
+
+-- with a level left the rule asks no further how many
+pub same-rule : (d : ℕ) (h : Head) → (d ≡ 0 → ⊥) → ruleOf 1 h ≡ ruleOf d h
+unfolding ruleOf
+same-rule d (Bad rule) n = refl
+same-rule d (Whole tag start len) n = simp (ne-eqb d 0 n)
 
 -- where no element may stand
 pub no-room : (d : ℕ) (s : List ℕ) → (eqb d 0 || ltb (length s) 2) ≡ true → elementOf d s ≡ Faulty (ruleOf d (headOf s))

@@ -13,7 +13,7 @@ use Rattle.der.specs.declared.head.Head.{Head}
 use Rattle.der.specs.declared.head.Head.the-variants.{Bad, Whole}
 use Rattle.der.specs.declared.element.Element.{Element}
 use Rattle.der.specs.declared.element.Element.the-variants.{Primitive, Constructed, Faulty}
-use Rattle.der.specs.Head.{byte, tagOk, inside, oneByte, twoBytes, lengthOf, headOf, headBytes}
+use Rattle.der.specs.Head.{byte, tagOk, inside, length81, length82, lengthOf, headOf, headBytes}
 use Rattle.der.specs.Content.{contentOk}
 use Rattle.der.specs.Element.{constructed, formOk, judge, elementOf}
 use Rattle.der.proofs.Auto.{or-false-left, or-false-right}
@@ -72,7 +72,7 @@ two-written s b h k e =
     (ap (λ (x : ℕ). byte s 0 ∷ x ∷ byte s 2 ∷ byte s 3 ∷ []) (sym e)))
 
 length-written : (s : List ℕ) → Bytes s → tagOk (byte s 0) ≡ true → Written s (lengthOf s)
-unfolding lengthOf oneByte twoBytes
+unfolding lengthOf length81 length82
 length-written s b ok =
     let P : Head → Type 0 = Written s in
     let b2 : byte s 2 < 256 = b 2 in
@@ -112,12 +112,12 @@ module _ (s : List ℕ) (ok : tagOk (byte s 0) ≡ true) where
       simp (ne-eqb (length s) 0 (λ z. omega arith), ok, le-ltb (length s) 2 (omega arith), lt-ltb (byte s 1) 128 h, le-leb (2 + byte s 1) (length s) fits)
 
   one-read : byte s 1 ≡ 129 → 128 ≤ byte s 2 → 3 + byte s 2 ≤ length s → headOf s ≡ Whole (byte s 0) 3 (byte s 2)
-  unfolding headOf lengthOf oneByte inside
+  unfolding headOf lengthOf length81 inside
   one-read e h fits =
       simp (ne-eqb (length s) 0 (λ z. omega arith), ok, le-ltb (length s) 2 (omega arith), e, le-ltb (length s) 3 (omega arith), le-ltb (byte s 2) 128 h, le-leb (3 + byte s 2) (length s) fits)
 
   two-read : byte s 1 ≡ 130 → 0 < byte s 2 → 4 + (byte s 2 * 256 + byte s 3) ≤ length s → headOf s ≡ Whole (byte s 0) 4 (byte s 2 * 256 + byte s 3)
-  unfolding headOf lengthOf twoBytes inside
+  unfolding headOf lengthOf length82 inside
   two-read e h fits =
       simp (ne-eqb (length s) 0 (λ z. omega arith), ok, le-ltb (length s) 2 (omega arith), e, le-ltb (length s) 4 (omega arith), ne-eqb (byte s 2) 0 (λ z. omega arith), le-leb (4 + (byte s 2 * 256 + byte s 3)) (length s) fits)
 

@@ -1,7 +1,7 @@
 -- Content of primitive elements (document 01, "DER as we take it", point 4): rule 4.
 use Prim.Native.Nat.{ℕ, _-_, _%_, _^_}
 use mathlib.Core.List.{List, [], _∷_}
-use mathlib.Core.Bool.{Bool, true, false, not, cond, _&&_, _||_}
+use mathlib.Core.Bool.{Bool, true, not, cond, _&&_, _||_}
 use lib.ListN.{length}
 use lib.Dec.{ltb, eqb}
 use Rattle.der.specs.Head.{byte}
@@ -28,19 +28,6 @@ bitStringOk c =
 unfoldable pub arcsOk : Bool → List ℕ → Bool
 arcsOk fresh [] = fresh
 arcsOk fresh (x ∷ c) = not (fresh && eqb x 128) && arcsOk (ltb x 128) c
-
--- the same of one byte: an arc begins at the first byte, and after each byte below 80
-unfoldable pub begins : List ℕ → ℕ → Bool
-begins c i = cond (eqb i 0) true (ltb (byte c (i - 1)) 128)
-
--- byte i is 80
-abbrev pub at80 : List ℕ → ℕ → Bool
-at80 c i = eqb (byte c i) 128
-
--- some byte is 80: if none is, the last byte decides (`arcs-plain` in proofs/ContentLaws.antt)
-unfoldable pub has80 : List ℕ → Bool
-has80 [] = false
-has80 (x ∷ c) = eqb x 128 || has80 c
 
 -- OBJECT IDENTIFIER: at least one byte, no arc beginning 80, last byte below 80 (X.690 8.19.2)
 unfoldable pub oidOk : List ℕ → Bool

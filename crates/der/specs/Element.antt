@@ -10,7 +10,7 @@ use Rattle.der.specs.declared.element.Element.{Element}
 use Rattle.der.specs.declared.element.Element.the-variants.{Primitive, Constructed, Faulty}
 use Rattle.der.specs.declared.element.Check.{Check}
 use Rattle.der.specs.declared.element.Check.the-variants.{Sound, Fault}
-use Rattle.der.specs.Head.{byte, tagOk, headOf}
+use Rattle.der.specs.Head.{headOf}
 use Rattle.der.specs.Content.{contentOk}
 
 -- A nest is at most 16 elements deep, the message being depth 1.
@@ -39,20 +39,6 @@ judge d s (Whole tag start len) =
 unfoldable pub elementOf : ℕ → List ℕ → Element
 elementOf d s = judge d s (headOf s)
 
--- The same as numbers. What an element with this tag and content is, wherever it stands: 0 a primitive one, 1 a constructed one,
--- 2 a faulty one.
-unfoldable pub kindOf : ℕ → List ℕ → ℕ
-kindOf tag c = cond (tagOk tag && formOk tag) (cond (constructed tag) 1 (cond (contentOk tag c) 0 2)) 2
-
--- the element that s begins with, its content `len` bytes from `start` on; start is 0 where its length is bad
-unfoldable pub kindIn : List ℕ → ℕ → ℕ → ℕ
-kindIn s start len = cond (eqb start 0) 2 (cond (ltb (length s) (start + len)) 2 (kindOf (byte s 0) (take len (drop start s))))
-
--- the rule that a faulty element with this tag and length breaks
-unfoldable pub ruleOf : ℕ → Head → ℕ
-ruleOf d (Bad rule) = rule
-ruleOf d (Whole tag start len) = cond (formOk tag && not (eqb d 0)) 4 3
-
 -- how many bytes it takes (after a faulty one nothing is read)
 abbrev pub sizeOf : Element → ℕ
 sizeOf (Primitive size) = size
@@ -68,24 +54,24 @@ andThen (Fault at rule) next = Fault at rule
 abbrev pub withContent : (ℕ → List ℕ → Check) → ℕ → List ℕ → Element → Check
 withContent inner b s (Primitive size) = Sound
 withContent inner b s (Constructed start len) = inner (b + start) (take len (drop start s))
-withContent inner b s (Faulty rule) = Fault b rule
+withContent inner b s (Faulty rule) = Fault (record { 0 = b }) rule
 
 -- the elements of s, at offset b, one after another; the first k bytes belong to the element before
-unfoldable pub run : (ℕ → List ℕ → Check) → ℕ → ℕ → ℕ → List ℕ → Check
-run inner d k b [] = Sound
-run inner d (suc k) b (x ∷ s) = run inner d k (b + 1) s
-run inner d zero b (x ∷ s) =
-    andThen (withContent inner b (x ∷ s) (elementOf d (x ∷ s))) (run inner d (sizeOf (elementOf d (x ∷ s)) - 1) (b + 1) s)
+unfoldable pub eachElement : (ℕ → List ℕ → Check) → ℕ → ℕ → ℕ → List ℕ → Check
+eachElement inner d k b [] = Sound
+eachElement inner d (suc k) b (x ∷ s) = eachElement inner d k (b + 1) s
+eachElement inner d zero b (x ∷ s) =
+    andThen (withContent inner b (x ∷ s) (elementOf d (x ∷ s))) (eachElement inner d (sizeOf (elementOf d (x ∷ s)) - 1) (b + 1) s)
 
 -- what an element holds: whole elements, which may nest one level less (with none left rule 3 has refused the element itself)
 unfoldable pub contentAt : ℕ → ℕ → List ℕ → Check
 contentAt zero b s = Sound
-contentAt (suc d) b s = run (contentAt d) d 0 b s
+contentAt (suc d) b s = eachElement (contentAt d) d 0 b s
 
 -- s, which stands at offset b, is whole elements where d levels are left; or the fault with the lowest offset, and the lowest
 -- rule broken there
 unfoldable pub checkAt : ℕ → ℕ → List ℕ → Check
-checkAt d b s = run (contentAt d) d 0 b s
+checkAt d b s = eachElement (contentAt d) d 0 b s
 
 -- all of s is whole elements, the first at depth 1
 unfoldable pub check : List ℕ → Check

@@ -2,7 +2,7 @@
 -- A byte is a number below 256, and bytes are a list.
 use Prim.Native.Nat.{ℕ, _+_, _*_, _/_, _%_}
 use mathlib.Core.List.{List, [], _∷_}
-use mathlib.Core.Bool.{Bool, true, false, not, cond, _||_}
+use mathlib.Core.Bool.{Bool, not, cond, _||_}
 use lib.ListN.{length, getD}
 use lib.Dec.{ltb, leb, eqb}
 use Rattle.der.specs.declared.head.Head.{Head}
@@ -22,37 +22,24 @@ unfoldable pub inside : ℕ → ℕ → ℕ → ℕ → Head
 inside n tag start len = cond (leb (start + len) n) (Whole tag start len) (Bad 2)
 
 -- Rule 2: 81 xx says 128 to 255
-unfoldable pub oneByte : List ℕ → Head
-oneByte s = cond (ltb (length s) 3 || ltb (byte s 2) 128) (Bad 2) (inside (length s) (byte s 0) 3 (byte s 2))
+unfoldable pub length81 : List ℕ → Head
+length81 s = cond (ltb (length s) 3 || ltb (byte s 2) 128) (Bad 2) (inside (length s) (byte s 0) 3 (byte s 2))
 
 -- Rule 2: 82 xx xx says 256 up
-unfoldable pub twoBytes : List ℕ → Head
-twoBytes s = cond (ltb (length s) 4 || eqb (byte s 2) 0) (Bad 2) (inside (length s) (byte s 0) 4 (byte s 2 * 256 + byte s 3))
+unfoldable pub length82 : List ℕ → Head
+length82 s = cond (ltb (length s) 4 || eqb (byte s 2) 0) (Bad 2) (inside (length s) (byte s 0) 4 (byte s 2 * 256 + byte s 3))
 
 -- Rule 2: below 128 the length is the one byte, else it is in the form 81 or 82; 80 and the longer forms are refused
 unfoldable pub lengthOf : List ℕ → Head
 lengthOf s =
     cond (ltb (length s) 2) (Bad 2)
     (cond (ltb (byte s 1) 128) (inside (length s) (byte s 0) 2 (byte s 1))
-    (cond (eqb (byte s 1) 129) (oneByte s)
-    (cond (eqb (byte s 1) 130) (twoBytes s) (Bad 2))))
+    (cond (eqb (byte s 1) 129) (length81 s)
+    (cond (eqb (byte s 1) 130) (length82 s) (Bad 2))))
 
 -- Tag and length of the element that s begins with, where s is what its parent has left. The lower rule is named first.
 unfoldable pub headOf : List ℕ → Head
 headOf s = cond (eqb (length s) 0) (Bad 2) (cond (tagOk (byte s 0)) (lengthOf s) (Bad 1))
-
--- A head as one number: the content's length times 8, and the bytes that tag and length take; 0 where it is bad.
-abbrev pub packedOf : Head → ℕ
-packedOf (Bad rule) = 0
-packedOf (Whole tag start len) = len * 8 + start
-
--- the same of a tag that may stand and a length that is read
-abbrev pub fitOf : ℕ → ℕ → ℕ → ℕ
-fitOf n start len = cond (leb (start + len) n) (len * 8 + start) 0
-
--- the rule that a bad head breaks
-unfoldable pub brokenRule : List ℕ → ℕ
-brokenRule s = cond (eqb (length s) 0) 2 (cond (tagOk (byte s 0)) 2 1)
 
 -- The other way: the bytes of a tag and a content length below 65,536. They are the only ones (`one-form` in proofs/OneForm.antt).
 unfoldable pub headBytes : ℕ → ℕ → List ℕ

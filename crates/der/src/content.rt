@@ -5,7 +5,8 @@ ghost use Prim.Native.Nat.{_+_, _<_, _≤_};
 ghost use lib.ListN.{length, drop};
 ghost use lib.Dec.{eqb};
 ghost use Rattle.der.specs.Head.{byte};
-ghost use Rattle.der.specs.Content.{booleanOk, integerOk, bitStringOk, at80, has80, begins, arcsOk, oidOk, contentOk};
+ghost use Rattle.der.specs.Content.{booleanOk, integerOk, bitStringOk, arcsOk, oidOk, contentOk};
+ghost use Rattle.der.specs.Code.{at80, has80, begins};
 
 fn boolean_ok(c: &[u8]) -> bool
     ensures { λ r. ⌜ r ≡ booleanOk (now (c .entry)) ⌝ }

@@ -1,15 +1,15 @@
 // Whole elements with all that they hold: point 3 of document 01, "DER as we take it", over the other three.
+use crate::Offset;
 use crate::content::content_ok;
 use crate::head;
 use crate::head::Head;
 use crate::head::wide;
 ghost use mathlib.Core.Path.{_≡_};
-ghost use mathlib.Core.Bool.{_||_};
-ghost use Prim.Native.Nat.{_+_, _^_, _<_};
-ghost use lib.Dec.{ltb, eqb};
+ghost use Prim.Native.Nat.{_+_, _*_, _^_, _<_, _≤_};
 ghost use lib.ListN.{length, drop};
 ghost use Rattle.der.specs.Head.{headOf};
-ghost use Rattle.der.specs.Element.{formOk, kindOf, kindIn, ruleOf, checkAt, check, fills, isElement};
+ghost use Rattle.der.specs.Element.{formOk, checkAt, check, fills, isElement};
+ghost use Rattle.der.specs.Code.{kindOf, kindIn, ruleOf, faults, answerOf, firstOf};
 
 // At most so many elements deep, the message being depth 1.
 pub const MAX_DEPTH: u8 = 16;
@@ -27,7 +27,7 @@ pub enum Element {
 // Elements with all that they hold: no fault, or the first one's offset and rule.
 pub enum Check {
     Sound,
-    Fault(usize, u8),
+    Fault(Offset, u8),
 }
 
 // Universal tags are primitive, but for SEQUENCE and SET; other classes may be either.
@@ -62,6 +62,12 @@ fn kind(tag: u8, c: &[u8]) -> usize
         }
         return 2;
     }
+    if tag < 16 {
+        return 0;
+    }
+    if tag == 49 {
+        return 1;
+    }
     if tag % 32 == 31 {
         return 2;
     }
@@ -92,7 +98,7 @@ fn kind_at(s: &[u8], i: usize, start: usize, len: usize) -> usize
 }
 
 // The rule that the faulty element at the start of `s` breaks.
-fn broken(s: &[u8], depth: u8) -> u8
+fn rule_of(s: &[u8], depth: u8) -> u8
     ensures { λ r. ⌜ r ≡ ruleOf depth (headOf (now (s .entry))) ⌝ }
 {
     let p = head::packed(s);
@@ -105,54 +111,104 @@ fn broken(s: &[u8], depth: u8) -> u8
     if form_ok(head::first_byte(s)) { 4 } else { 3 }
 }
 
-// No element may stand here: no level is left, or less than the two bytes that one takes.
-fn no_room(depth: u8, left: usize) -> bool
-    ensures { λ r. ⌜ r ≡ (eqb depth 0 || ltb left 2) ⌝ }
+// One element takes at most 65,539 bytes, so that no place in it is so high: a fault in it as one number starts here.
+const FAULTS: usize = 65540;
+
+// Levels left, for a rule that asks only whether there is one.
+const SOME: u8 = 1;
+
+// The element at i is faulty: as one number.
+fn fault(m: &[u8], i: usize, depth: u8) -> usize
+    requires { ⌜ (i ≤ length (now m)) × (length (now m) < faults) ⌝ }
+    ensures { λ r. ⌜ r ≡ faults + (i * 8 + ruleOf depth (headOf (drop i (now (m .entry))))) ⌝ }
 {
-    if depth == 0 {
-        return true;
-    }
-    left < 2
+    FAULTS + (i * 8 + wide(rule_of(&m[i..], depth)))
 }
 
-// The elements of `s`, which stands at offset `base` of the message, where `depth` levels are left. The last element's content is
-// checked in the same loop, a level deeper; any other's by a call.
-fn elements(s: &[u8], base: usize, depth: u8) -> Check
-    requires { ⌜ base + length (now s) < 2 ^ 64 ⌝ }
-    ensures { λ r. ⌜ r ≡ checkAt depth base (now (s .entry)) ⌝ }
+// The elements of `m` from `from` on where no level is left: there is none, or it is faulty.
+fn no_level(m: &[u8], from: usize) -> usize
+    requires { ⌜ (from ≤ length (now m)) × (length (now m) < faults) ⌝ }
+    ensures { λ r. ⌜ r ≡ answerOf (length (now (m .entry))) (checkAt 0 from (drop from (now (m .entry)))) ⌝ }
 {
-    let n = s.len();
-    let mut i = 0;
-    let mut d = depth;
-    while i < n {
-        if no_room(d, n - i) {
-            return Check::Fault(base + i, broken(&s[i..], d));
+    if m.len() <= from {
+        return from;
+    }
+    fault(m, from, 0)
+}
+
+// The elements of `m` from `from` on, where `depth` levels are left, as one number: the end of `m` where all are sound, else the first
+// fault, which is above. What an element holds is checked by a call, a level deeper.
+fn elements(m: &[u8], from: usize, depth: u8) -> usize
+    requires { ⌜ (from ≤ length (now m)) × (length (now m) < faults) ⌝ }
+    ensures { λ r. ⌜ r ≡ answerOf (length (now (m .entry))) (checkAt depth from (drop from (now (m .entry)))) ⌝ }
+{
+    if depth == 0 {
+        return no_level(m, from);
+    }
+    let end = m.len();
+    let mut i = from;
+    while i < end {
+        if end - i < 2 {
+            return fault(m, i, SOME);
         }
         let mut start = head::SHORT;
-        let mut len = wide(s[i + 1]);
+        let mut len = wide(m[i + 1]);
         if head::is_long(len) {
-            let p = head::read_length(&s[i..]);
+            let p = head::read_length(&m[i..]);
+            if p == 0 {
+                return fault(m, i, SOME);
+            }
             start = p % 8;
             len = p / 8;
         }
-        let k = kind_at(s, i, start, len);
+        let k = kind_at(m, i, start, len);
         if k == 2 {
-            return Check::Fault(base + i, broken(&s[i..], d));
+            return fault(m, i, SOME);
         }
         let a = i + start;
         let e = a + len;
         if k == 0 {
             i = e;
-        } else if e == n {
-            i = a;
-            d -= 1;
         } else {
-            let inner = elements(&s[a..e], base + a, d - 1);
-            let Check::Sound = inner else {
-                return inner;
-            };
-            i = e;
+            i = elements(&m[..e], a, depth - 1);
         }
+    }
+    i
+}
+
+// The element that `s` begins with and all that it holds, as one number: its size, or the first fault in it.
+fn first(s: &[u8]) -> usize
+    ensures { λ r. ⌜ r ≡ firstOf (now (s .entry)) (headOf (now (s .entry))) ⌝ }
+{
+    let p = head::packed(s);
+    if p == 0 {
+        return FAULTS + wide(head::broken_rule(s));
+    }
+    let e = p % 8 + p / 8;
+    elements(&s[..e], 0, MAX_DEPTH)
+}
+
+// The low eight bits of a number.
+fn low(x: usize) -> u8
+    requires { ⌜ x < 256 ⌝ }
+    ensures { λ r. ⌜ r ≡ x ⌝ }
+{
+    x as u8
+}
+
+// Whether all of `s` is whole elements, one after another by itself, since `s` may be longer than one.
+fn one_by_one(s: &[u8]) -> Check
+    ensures { λ r. ⌜ r ≡ check (now (s .entry)) ⌝ }
+{
+    let n = s.len();
+    let mut i = 0;
+    while i < n {
+        let p = first(&s[i..]);
+        if FAULTS <= p {
+            let f = p - FAULTS;
+            return Check::Fault(Offset(i + f / 8), low(f % 8));
+        }
+        i += p;
     }
     Check::Sound
 }
@@ -161,7 +217,15 @@ fn elements(s: &[u8], base: usize, depth: u8) -> Check
 pub fn check_elements(s: &[u8]) -> Check
     ensures { λ r. ⌜ r ≡ check (now (s .entry)) ⌝ }
 {
-    elements(s, 0, MAX_DEPTH)
+    if FAULTS <= s.len() {
+        return one_by_one(s);
+    }
+    let p = elements(s, 0, MAX_DEPTH);
+    if p < FAULTS {
+        return Check::Sound;
+    }
+    let f = p - FAULTS;
+    Check::Fault(Offset(f / 8), low(f % 8))
 }
 
 fn fills(s: &[u8]) -> bool
@@ -179,8 +243,7 @@ pub fn is_element(s: &[u8], depth: u8) -> bool
     ensures { λ r. ⌜ r ≡ isElement depth (now (s .entry)) ⌝ }
 {
     if fills(s) {
-        let c = elements(s, 0, depth);
-        if let Check::Sound = c { true } else { false }
+        elements(s, 0, depth) < FAULTS
     } else {
         false
     }

@@ -2,7 +2,8 @@
 ghost use mathlib.Core.Path.{_≡_};
 ghost use Prim.Native.Nat.{_<_};
 ghost use lib.Dec.{ltb};
-ghost use Rattle.der.specs.Head.{byte, tagOk, fitOf, oneByte, twoBytes, lengthOf, headOf, packedOf, brokenRule};
+ghost use Rattle.der.specs.Head.{byte, tagOk, length81, length82, lengthOf, headOf};
+ghost use Rattle.der.specs.Code.{fitOf, packedOf, brokenRule};
 
 // An element whose content is `len` bytes from `start`, or the rule that its tag and length break.
 pub enum Head {
@@ -39,8 +40,8 @@ fn fit(n: usize, start: usize, len: usize) -> usize
     if start + len <= n { len * 8 + start } else { 0 }
 }
 
-fn one_byte(s: &[u8]) -> usize
-    ensures { λ r. ⌜ r ≡ packedOf (oneByte (now (s .entry))) ⌝ }
+fn length_81(s: &[u8]) -> usize
+    ensures { λ r. ⌜ r ≡ packedOf (length81 (now (s .entry))) ⌝ }
 {
     let n = s.len();
     if n < 3 {
@@ -53,8 +54,8 @@ fn one_byte(s: &[u8]) -> usize
     fit(n, 3, wide(a))
 }
 
-fn two_bytes(s: &[u8]) -> usize
-    ensures { λ r. ⌜ r ≡ packedOf (twoBytes (now (s .entry))) ⌝ }
+fn length_82(s: &[u8]) -> usize
+    ensures { λ r. ⌜ r ≡ packedOf (length82 (now (s .entry))) ⌝ }
 {
     let n = s.len();
     if n < 4 {
@@ -90,10 +91,10 @@ pub(crate) fn read_length(s: &[u8]) -> usize
         return fit(n, 2, wide(first));
     }
     if first == 129 {
-        return one_byte(s);
+        return length_81(s);
     }
     if first == 130 {
-        return two_bytes(s);
+        return length_82(s);
     }
     0
 }

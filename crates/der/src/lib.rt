@@ -2,3 +2,7 @@
 mod content;
 pub mod element;
 pub mod head;
+pub mod integer;
+
+// A byte's place in the message.
+pub struct Offset(pub usize);

@@ -10,13 +10,14 @@ use borrow.Author.Tests.{ltb-true, ltb-false, leb-false, eq-eqb, ne-eqb}
 use lib.ListN.{length, getD, take, drop, drop-of-length-le}
 use lib.Seq.{drop-cons, getD-take, getD-drop}
 use lib.Dec.{ltb, leb, eqb, lit<}
-use Rattle.der.specs.Head.{byte, headOf, packedOf}
+use Rattle.der.specs.Head.{byte, headOf}
+use Rattle.der.specs.Code.{packedOf}
 use Rattle.der.specs.declared.head.Head.{Head}
 use Rattle.der.specs.declared.head.Head.the-variants.{Bad, Whole}
 use Rattle.der.proofs.Auto.{and-left, and-right, or-false-left, or-false-right}
 use Rattle.der.proofs.HeadLaws.{cond-both, span-in, whole-in, whole-tag, unpacked}
 use Rattle.grammar.specs.declared.cursor.Cursor.{Cursor}
-use Rattle.grammar.specs.Cursor.{isOk, headIn, faultAt, pastOf, ifTag, packedIf, taggedOf, needOf, leaveOf, shiftIn, signed32, moreAt, leftAt, repeat}
+use Rattle.grammar.specs.Cursor.{isOk, headIn, faultAt, pastOf, ifTag, packedIf, taggedOf, needOf, leaveOf, moreAt, leftAt, repeat}
 
 -- a whole element that stands between two offsets ends inside, and the second lies inside the message
 module _ (m : List ℕ) (at end : ℕ) {tag start len : ℕ} (whole : headIn m at end ≡ Whole tag start len) where
@@ -83,25 +84,6 @@ module _ (m : List ℕ) (tag : ℕ) (c : Cursor) {p : ℕ} (packs : p ≡ tagged
           let u = unpacked start len (omega arith) (packs ∙ ap (packedIf tag) q ∙ ap (λ (b : Bool). cond b (len * 8 + start) 0) e) in
           (rw (u .0, u .1) refl, rw (u .0, u .1) (w .1)))
           (λ e. absurd (n (packs ∙ ap (packedIf tag) q ∙ ap (λ (b : Bool). cond b (len * 8 + start) 0) e)))
-
--- one more byte shifted in
-pub shift-more : (s : List ℕ) (i v : ℕ) → i < length s → shiftIn v (drop i s) ≡ shiftIn ((v * 256 + getD s i 0) % 4294967296) (drop (i + 1) s)
-unfolding shiftIn
-shift-more s i v h = rw (add-one, drop-cons s i 0 h)
-
-pub shift-end : (s : List ℕ) (i v : ℕ) → length s ≤ i → shiftIn v (drop i s) ≡ v
-unfolding shiftIn
-shift-end s i v h = rw (drop-of-length-le s h)
-
-pub signed-none : (s : List ℕ) → length s ≡ 0 → signed32 s ≡ 0
-unfolding signed32 shiftIn
-signed-none [] e = refl
-signed-none (x ∷ s) e = absurd (omega arith)
-
--- the numbers that 01 prints beside two of its dozen: -1, as 32 bits of two's complement, and 128
-pub two-numbers : (signed32 (255 ∷ []) ≡ 4294967295) × (signed32 (0 ∷ 128 ∷ []) ≡ 128)
-unfolding signed32 shiftIn
-two-numbers = (refl, refl)
 
 -- ## A step forward
 

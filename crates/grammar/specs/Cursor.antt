@@ -5,7 +5,9 @@ use mathlib.Core.List.{List, [], _∷_}
 use mathlib.Core.Bool.{Bool, true, false, cond, _&&_, _||_}
 use lib.ListN.{length, getD, take, drop}
 use lib.Dec.{ltb, leb, eqb}
-use Rattle.der.specs.Head.{byte, headOf, packedOf}
+use Rattle.der.specs.Head.{byte, headOf}
+use Rattle.der.specs.Code.{packedOf}
+use Rattle.der.specs.Integer.{signed32}
 use Rattle.der.specs.declared.head.Head.{Head}
 use Rattle.der.specs.declared.head.Head.the-variants.{Bad, Whole}
 use Rattle.grammar.specs.declared.cursor.Cursor.{Cursor}
@@ -79,15 +81,6 @@ leaveOf outer inner = cond (isOk inner) outer inner
 -- what the element read last holds
 unfoldable pub contentOf : List ℕ → Cursor → List ℕ
 contentOf m c = partOf m (spanFrom (c .from) (c .to))
-
--- bytes shifted into a number of 32 bits
-unfoldable pub shiftIn : ℕ → List ℕ → ℕ
-shiftIn v [] = v
-shiftIn v (x ∷ s) = shiftIn ((v * 256 + x) % 4294967296) s
-
--- a number in two's complement (X.690 8.3.3), as its low 32 bits
-unfoldable pub signed32 : List ℕ → ℕ
-signed32 s = shiftIn (cond (leb 128 (byte s 0)) 4294967295 0) s
 
 -- the number that the INTEGER read last says
 unfoldable pub valueOf : List ℕ → Cursor → ℕ

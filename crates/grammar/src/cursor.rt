@@ -2,10 +2,11 @@
 use crate::part_of;
 use crate::parts::found_span;
 use der::head;
+use der::integer::signed32;
 ghost use mathlib.Core.Path.{_≡_};
 ghost use Prim.Native.Nat.{_+_, _-_, _^_, _<_};
 ghost use lib.ListN.{take, drop};
-ghost use Rattle.grammar.specs.Cursor.{taggedOf, tagAt, faultAt, pastOf, needOf, anyOf, noneOf, maybeOf, restOf, doneOf, enterOf, leaveOf, contentOf, valueOf, smallIntegerOf, moreAt, shiftIn, signed32};
+ghost use Rattle.grammar.specs.Cursor.{taggedOf, tagAt, faultAt, pastOf, needOf, anyOf, noneOf, maybeOf, restOf, doneOf, enterOf, leaveOf, contentOf, valueOf, smallIntegerOf, moreAt};
 
 // Where the next element is sought and where its parent ends; what the last one held; and the rule that is broken where the
 // cursor stands, 0 while all is right.
@@ -182,43 +183,11 @@ pub(crate) fn content(m: &[u8], c: Cursor) -> &[u8]
     part_of(m, found_span(c))
 }
 
-// A number in two's complement, as its low 32 bits.
-fn signed_value(s: &[u8]) -> u32
-    ensures { λ r. ⌜ r ≡ signed32 (now (s .entry)) ⌝ }
-{
-    if s.len() == 0 {
-        return 0;
-    }
-    if 128 <= s[0] {
-        return shift_in(4294967295, s);
-    }
-    shift_in(0, s)
-}
-
-fn shift_in(first: u64, s: &[u8]) -> u32
-    requires { ⌜ first < 2 ^ 32 ⌝ }
-    ensures { λ r. ⌜ r ≡ shiftIn first (now (s .entry)) ⌝ }
-{
-    let mut v = first;
-    let mut i = 0;
-    while i < s.len() {
-        v = (v * 256 + wide(s[i])) % 4294967296;
-        i += 1;
-    }
-    v as u32
-}
-
-fn wide(x: u8) -> u64
-    ensures { λ r. ⌜ (r ≡ x) × (r < 256) ⌝ }
-{
-    x as u64
-}
-
 // The number that the INTEGER read last says.
 pub(crate) fn value(m: &[u8], c: Cursor) -> u32
     ensures { λ r. ⌜ r ≡ valueOf (now (m .entry)) c ⌝ }
 {
-    signed_value(content(m, c))
+    signed32(content(m, c))
 }
 
 // An INTEGER of at most four content bytes.

@@ -1,13 +1,13 @@
 -- The examples, computed.
 use mathlib.Core.Path.{refl}
-use Rattle.der.specs.Head.{tagOk, inside, oneByte, twoBytes, lengthOf, headOf}
+use Rattle.der.specs.Head.{tagOk, inside, length81, length82, lengthOf, headOf}
 use Rattle.paths.specs.Walk.{elementsUpTo, elementsBetween, walk}
-use Rattle.paths.specs.Integer.{unsigned, integerOf}
+use Rattle.der.specs.Integer.{unsigned, integerOf}
 use Rattle.paths.specs.Table.{placeOf, pathOf, spanAt}
 use Rattle.paths.specs.Examples.{w, OnW, TwoIntegers}
 
 pub on-w : OnW
-unfolding w placeOf pathOf spanAt walk elementsBetween elementsUpTo headOf lengthOf oneByte twoBytes inside tagOk integerOf unsigned
+unfolding w placeOf pathOf spanAt walk elementsBetween elementsUpTo headOf lengthOf length81 length82 inside tagOk integerOf unsigned
 on-w =
     record {
       header = refl;
@@ -37,5 +37,5 @@ on-w =
     }
 
 pub two-integers : TwoIntegers
-unfolding elementsBetween elementsUpTo headOf lengthOf oneByte twoBytes inside tagOk integerOf unsigned
+unfolding elementsBetween elementsUpTo headOf lengthOf length81 length82 inside tagOk integerOf unsigned
 two-integers = record { less = refl; more = refl }

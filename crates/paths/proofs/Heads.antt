@@ -8,7 +8,7 @@ use borrow.Author.Tests.{ltb-true, ltb-false, eqb-true, eqb-false, lt-ltb, le-lt
 use lib.ListN.{length, take}
 use lib.Seq.{getD-take, length-take-le}
 use lib.Dec.{ltb, leb, eqb, lit<}
-use Rattle.der.specs.Head.{byte, tagOk, inside, oneByte, twoBytes, lengthOf, headOf}
+use Rattle.der.specs.Head.{byte, tagOk, inside, length81, length82, lengthOf, headOf}
 use Rattle.der.specs.declared.head.Head.{Head}
 use Rattle.der.specs.declared.head.Head.the-variants.{Bad, Whole}
 use Rattle.der.proofs.Auto.{or-false-right}
@@ -36,7 +36,7 @@ module _ (s t : List ℕ) where
         (same 0 (lit< tt), same 1 (lit< tt), ne-eqb (length t) 0 (λ z. omega arith), ok, le-ltb (length t) 2 (omega arith), lt-ltb (byte s 1) 128 h, le-leb (2 + byte s 1) (length t) fits)
 
     one-reads : byte s 1 ≡ 129 → 128 ≤ byte s 2 → Reads s t (Whole (byte s 0) 3 (byte s 2))
-    unfolding Reads headOf lengthOf oneByte inside
+    unfolding Reads headOf lengthOf length81 inside
     one-reads e h same fits =
         simp (
           same 0 (lit< tt),
@@ -52,7 +52,7 @@ module _ (s t : List ℕ) where
         )
 
     two-reads : byte s 1 ≡ 130 → 0 < byte s 2 → Reads s t (Whole (byte s 0) 4 (byte s 2 * 256 + byte s 3))
-    unfolding Reads headOf lengthOf twoBytes inside
+    unfolding Reads headOf lengthOf length82 inside
     two-reads e h same fits =
         simp (
           same 0 (lit< tt),
@@ -69,7 +69,7 @@ module _ (s t : List ℕ) where
         )
 
     length-reads : Reads s t (lengthOf s)
-    unfolding lengthOf oneByte twoBytes
+    unfolding lengthOf length81 length82
     length-reads =
         let P : Head → Type 0 = Reads s t in
         cond-case P (ltb (length s) 2) (bad 2)

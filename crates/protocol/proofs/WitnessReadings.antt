@@ -5,10 +5,11 @@ use mathlib.Core.Bool.{Bool, true, false}
 use mathlib.Core.Option.{Option, none, some}
 use mathlib.Core.Path.{_≡_, refl}
 use lib.ListN.{replicate}
-use Rattle.der.specs.Head.{tagOk, inside, oneByte, twoBytes, lengthOf, headOf}
+use Rattle.der.specs.Head.{tagOk, inside, length81, length82, lengthOf, headOf}
 use Rattle.der.specs.Content.{booleanOk, integerOk, bitStringOk, arcsOk, oidOk, contentOk}
-use Rattle.der.specs.Element.{formOk, judge, elementOf, run, contentAt, checkAt, check}
-use Rattle.grammar.specs.Cursor.{headIn, tagAt, needOf, anyOf, maybeOf, restOf, doneOf, enterOf, leaveOf, contentOf, shiftIn, signed32, valueOf, smallIntegerOf, moreAt, repeat}
+use Rattle.der.specs.Integer.{shiftIn, signed32}
+use Rattle.der.specs.Element.{formOk, judge, elementOf, eachElement, contentAt, checkAt, check}
+use Rattle.grammar.specs.Cursor.{headIn, tagAt, needOf, anyOf, maybeOf, restOf, doneOf, enterOf, leaveOf, contentOf, valueOf, smallIntegerOf, moreAt, repeat}
 use Rattle.grammar.specs.Parts.{foundOf, typedOf, oneOf, allBy, sequenceBy, sequenceOf, fieldOf, typedField, anyField, sequenceField, maybeText, lastBitSet, failInfoOf, statusOf, maybeStatus}
 use Rattle.grammar.specs.Header.{nameTag, nameOf, namesOf, optionsOf, idsOf, headerOf}
 use Rattle.grammar.specs.Entries.{requestOf, choiceOf, keyPair, maybeKeyPair, responseOf, certStatusOf, entryOf, entriesOf}
@@ -61,8 +62,8 @@ pkiConfFields = fieldsWith 19 5 (some (replicate 16 4)) 0 none [] false
 
 -- all five, computed
 all-read : ReadsAs irBytes irFields × ReadsAs ipBytes ipFields × ReadsAs acceptBytes acceptFields × ReadsAs declineBytes declineFields × ReadsAs pkiConfBytes pkiConfFields
-unfolding tagOk inside oneByte twoBytes lengthOf headOf booleanOk integerOk bitStringOk arcsOk oidOk contentOk formOk judge
-    elementOf run contentAt checkAt check headIn tagAt needOf anyOf maybeOf restOf doneOf enterOf leaveOf contentOf shiftIn
+unfolding tagOk inside length81 length82 lengthOf headOf booleanOk integerOk bitStringOk arcsOk oidOk contentOk formOk judge
+    elementOf eachElement contentAt checkAt check headIn tagAt needOf anyOf maybeOf restOf doneOf enterOf leaveOf contentOf shiftIn
     signed32 valueOf smallIntegerOf moreAt repeat foundOf typedOf oneOf allBy sequenceBy sequenceOf fieldOf typedField anyField
     sequenceField maybeText lastBitSet failInfoOf statusOf maybeStatus nameTag nameOf namesOf optionsOf idsOf headerOf requestOf
     choiceOf keyPair maybeKeyPair responseOf certStatusOf entryOf entriesOf atLeastOne requestsOf responsesOf confirmationsOf

@@ -6,7 +6,8 @@ use native.Mathlib.Omega.{arith}
 use lib.ListN.{length, drop}
 use Rattle.der.proofs.Auto.{tests, told}
 use Rattle.der.proofs.ContentLaws.{arc-start, arc-more, arc-bad, arc-end}
-use Rattle.der.specs.Content.{arcsOk, begins}
+use Rattle.der.specs.Content.{arcsOk}
+use Rattle.der.specs.Code.{begins}
 use Rattle.der.proofs.content.arcs_ok.Statement.{statement}
 use Rattle.der.proofs.content.arcs_ok.Tie as tie
 

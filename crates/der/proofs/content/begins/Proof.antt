@@ -1,5 +1,5 @@
 use Rattle.der.proofs.Auto.{tests}
-use Rattle.der.specs.Content.{begins}
+use Rattle.der.specs.Code.{begins}
 use Rattle.der.proofs.content.begins.Statement.{statement}
 use Rattle.der.proofs.content.begins.Tie as tie
 

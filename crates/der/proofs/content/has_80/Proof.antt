@@ -5,7 +5,7 @@ use native.Mathlib.Omega.{arith}
 use lib.ListN.{length, drop}
 use Rattle.der.proofs.Auto.{tests, told}
 use Rattle.der.proofs.ContentLaws.{has-four}
-use Rattle.der.specs.Content.{has80}
+use Rattle.der.specs.Code.{has80}
 use Rattle.der.proofs.content.has_80.Statement.{statement}
 use Rattle.der.proofs.content.has_80.Tie as tie
 

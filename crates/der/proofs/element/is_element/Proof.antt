@@ -1,5 +1,8 @@
 use Rattle.der.proofs.Auto.{tests, told}
+use native.Mathlib.Omega.{arith}
 use Rattle.der.specs.Element.{isElement}
+use Rattle.der.proofs.RuleLaws.{answer-test}
+use Rattle.der.proofs.FirstLaws.{fills-small}
 use Rattle.der.proofs.element.is_element.Statement.{statement}
 use Rattle.der.proofs.element.is_element.Tie as tie
 
@@ -7,9 +10,9 @@ pub is-element-spec : {M : Type 1} → statement M
 unfolding isElement
 is-element-spec = tie.close (tie.spec
     (λ c κs. search tests)
-    (λ c κs. search tests)
-    (λ c. search tests)
-    (λ c. search tests)
-    (λ c. search (tests, told (c .before .before .elements .ensures) (c .enum-told .given .1), told (c .before .before .before .before .fills .ensures) (c .before .before .before .if1 .taken)))
-    (λ c. search (tests, told (c .before .before .elements .ensures) (c .enum-told2 .given .1), told (c .before .before .before .before .fills .ensures) (c .before .before .before .if1 .taken)))
+    (λ c κs. let known = c .before .before in
+    omega (arith, fills-small _ (λ i. omega (arith, known .shared-slice-known .given i)) (told (c .before .fills .ensures) (c .if1 .taken))))
+    (λ c. let known = c .before .before .before in
+    let small = fills-small _ (λ i. omega (arith, known .shared-slice-known .given i)) (told (c .before .before .fills .ensures) (c .before .if1 .taken)) in
+    search (tests, answer-test _ _ _ _ small (c .elements .ensures), told (c .before .before .fills .ensures) (c .before .if1 .taken)))
     (λ c. search (tests, told (c .before .fills .ensures) (c .if1 .left))))

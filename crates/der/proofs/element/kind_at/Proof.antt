@@ -3,7 +3,7 @@ use native.Mathlib.Omega.{arith}
 use borrow.Author.Tests.{ne-eqb, lt-ltb, le-ltb}
 use Rattle.der.proofs.Auto.{tests}
 use Rattle.der.proofs.KindLaws.{kind-there}
-use Rattle.der.specs.Element.{kindIn}
+use Rattle.der.specs.Code.{kindIn}
 use Rattle.der.proofs.element.kind_at.Statement.{statement}
 use Rattle.der.proofs.element.kind_at.Tie as tie
 

@@ -1,5 +1,5 @@
 use Rattle.der.proofs.Auto.{tests, told}
-use Rattle.der.specs.Head.{brokenRule}
+use Rattle.der.specs.Code.{brokenRule}
 use Rattle.der.proofs.head.broken_rule.Statement.{statement}
 use Rattle.der.proofs.head.broken_rule.Tie as tie
 

@@ -8,4 +8,4 @@ unfolding valueOf
 value-spec = tie.close (tie.spec
     (λ c κs. search tests)
     (λ c κs. search tests)
-    (λ c. search (tests, ← c .signed-value .ensures, ← c .before .content .ensures)))
+    (λ c. search (tests, ← c .signed32 .ensures, ← c .before .content .ensures)))

@@ -1,12 +1,12 @@
 use Rattle.der.proofs.Auto.{tests}
 use Rattle.der.proofs.HeadLaws.{packed-inside}
-use Rattle.der.specs.Head.{twoBytes}
-use Rattle.der.proofs.head.two_bytes.Statement.{statement}
-use Rattle.der.proofs.head.two_bytes.Tie as tie
+use Rattle.der.specs.Head.{length82}
+use Rattle.der.proofs.head.length_82.Statement.{statement}
+use Rattle.der.proofs.head.length_82.Tie as tie
 
-pub two-bytes-spec : {M : Type 1} → statement M
-unfolding twoBytes
-two-bytes-spec = tie.close (tie.spec
+pub length-82-spec : {M : Type 1} → statement M
+unfolding length82
+length-82-spec = tie.close (tie.spec
     (λ c. search tests)
     (λ c. search tests)
     (λ c. search tests)

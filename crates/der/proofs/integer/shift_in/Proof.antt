@@ -5,11 +5,11 @@ use native.Mathlib.Nat.{mod-lt}
 use native.Mathlib.Omega.{arith}
 use lib.ListN.{length, drop}
 use lib.Dec.{lit<}
 use Rattle.der.proofs.Auto.{tests}
-use Rattle.grammar.specs.Cursor.{shiftIn}
-use Rattle.grammar.proofs.CursorLaws.{shift-more, shift-end}
-use Rattle.grammar.proofs.cursor.shift_in.Statement.{statement}
-use Rattle.grammar.proofs.cursor.shift_in.Tie as tie
+use Rattle.der.specs.Integer.{shiftIn}
+use Rattle.der.proofs.IntegerLaws.{shift-more, shift-end}
+use Rattle.der.proofs.integer.shift_in.Statement.{statement}
+use Rattle.der.proofs.integer.shift_in.Tie as tie
 
 abbrev Inv-loop : tie.InvT-loop
 Inv-loop first s v₀ i₀ v i = (i ≤ length s) × (v < 4294967296) × (shiftIn first s ≡ shiftIn v (drop i s))

@@ -1,13 +1,13 @@
 use Rattle.der.proofs.Auto.{tests, told}
 use mathlib.Core.Bool.{and-false}
 use Rattle.der.proofs.HeadLaws.{packed-whole, packed-bad}
-use Rattle.der.specs.Element.{ruleOf}
-use Rattle.der.proofs.element.broken.Statement.{statement}
-use Rattle.der.proofs.element.broken.Tie as tie
+use Rattle.der.specs.Code.{ruleOf}
+use Rattle.der.proofs.element.rule_of.Statement.{statement}
+use Rattle.der.proofs.element.rule_of.Tie as tie
 
-pub broken-spec : {M : Type 1} → statement M
+pub rule-of-spec : {M : Type 1} → statement M
 unfolding ruleOf
-broken-spec = tie.close (tie.spec
+rule-of-spec = tie.close (tie.spec
     (λ c κs. search tests)
     (λ c κs. search tests)
     (λ c. search (tests, c .broken-rule .ensures, packed-bad _ (c .before .before .packed .ensures) (c .before .if1 .taken)))
