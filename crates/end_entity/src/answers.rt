@@ -1,7 +1,7 @@
 // The end entity's answers, and the messages that it sends.
 use crate::states::decided_state;
 use crate::states::decision_status;
-use grammar::Offset;
+use der::Offset;
 use incoming::rows::bit_of;
 use incoming::rows::read_refusal;
 use message::ReadFault;

@@ -20,7 +20,7 @@ use Rattle.message.specs.Read.{readingOf, protectedLength}
 
 abbrev pub checkNumber : Check → ℕ
 checkNumber Sound = 0
-checkNumber (Fault at rule) = at * 8 + rule
+checkNumber (Fault at rule) = at .0 * 8 + rule
 
 unfoldable pub checkAnswer : List ℕ → ℕ
 checkAnswer s = cond (ltb 4294967295 (length s)) 7 (checkNumber (check s))

@@ -30,7 +30,7 @@ pub fn check_number(bytes: &[u8]) -> u64
     let c = check_elements(bytes);
     match c {
         Check::Sound => 0,
-        Check::Fault(at, rule) => at as u64 * 8 + widened(rule),
+        Check::Fault(at, rule) => at.0 as u64 * 8 + widened(rule),
     }
 }
 

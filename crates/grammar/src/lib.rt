@@ -6,11 +6,9 @@ mod pki_body;
 mod pki_header;
 pub mod pki_message;
 
+use der::Offset;
 ghost use mathlib.Core.Path.{_≡_};
 ghost use Rattle.grammar.specs.Span.{partOf};
-
-// A byte's place in the message.
-pub struct Offset(pub usize);
 
 // A part of the message. An absent one starts at 0, where no part but the whole message can start, and has no length.
 pub struct Span {

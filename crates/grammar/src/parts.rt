@@ -1,5 +1,4 @@
 // Grammar rules that several parts of a message share.
-use crate::Offset;
 use crate::Span;
 use crate::cursor::Cursor;
 use crate::cursor::any;
@@ -16,6 +15,7 @@ use crate::cursor::rest;
 use crate::cursor::small_integer;
 use crate::cursor::tag_at;
 use crate::cursor::value;
+use der::Offset;
 ghost use mathlib.Core.Path.{_≡_};
 ghost use Rattle.grammar.specs.Cursor.{needOf};
 ghost use Rattle.grammar.specs.Span.{spanFrom};

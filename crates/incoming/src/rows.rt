@@ -1,8 +1,8 @@
 // The rows of 01's table that both ends share, and the bit that goes with each number.
+use der::Offset;
 use grammar::Entry;
 use grammar::Header;
 use grammar::Message;
-use grammar::Offset;
 use message::ReadFault;
 use message::Reading;
 use parts::is_present;

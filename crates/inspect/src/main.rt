@@ -1,6 +1,6 @@
 // Reads a message from standard input and prints where its parts are, start and length, or by which number it is refused.
+use der::Offset;
 use grammar::Message;
-use grammar::Offset;
 use grammar::Span;
 use libc::STDIN_FILENO;
 use libc::STDOUT_FILENO;

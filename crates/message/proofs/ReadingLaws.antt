@@ -9,6 +9,7 @@ use borrow.Author.Tests.{ltb-true, ltb-false, eqb-true, eqb-false}
 use lib.ListN.{length}
 use lib.Dec.{ltb, eqb}
 use Rattle.der.specs.Element.{check, isSound}
+use Rattle.der.specs.declared.Offset.{Offset}
 use Rattle.der.specs.declared.element.Check.{Check}
 use Rattle.der.specs.declared.element.Check.the-variants.{Sound, Fault}
 use Rattle.der.proofs.Auto.{or-cases, or-false-left, or-false-right}
@@ -48,9 +49,9 @@ pub record CleanOf (m : List ℕ) (x : Message) : Type 0 where
 -- the fault at this offset, of this rule, is the lowest of the two, DER's (rules 1 to 4) where the grammar's (rule 5) stands at the
 -- same offset
 pub record Lowest (m : List ℕ) (at rule : ℕ) : Type 0 where
-  pub der : (a q : ℕ) → check m ≡ Fault a q → at ≤ a
+  pub der : (a : Offset) (q : ℕ) → check m ≡ Fault a q → at ≤ a .0
   pub grammar : Unmet m → at ≤ messageOf m .cur .at
-  pub named : ((check m ≡ Fault at rule) × (1 ≤ rule) × (rule ≤ 4)) ⊎ (Unmet m × (at ≡ messageOf m .cur .at) × (rule ≡ 5) × ((a q : ℕ) → check m ≡ Fault a q → at < a))
+  pub named : ((check m ≡ Fault (record { 0 = at }) rule) × (1 ≤ rule) × (rule ≤ 4)) ⊎ (Unmet m × (at ≡ messageOf m .cur .at) × (rule ≡ 5) × ((a : Offset) (q : ℕ) → check m ≡ Fault a q → at < a .0))
 
 -- refusal 2 is of a message of 1 to 16,384 bytes and names the lowest fault
 pub record BrokenAt (m : List ℕ) (r : ReadFault) : Type 0 where
@@ -66,23 +67,23 @@ Says m (Refused r) = ((r .number ≡ 1) × NoLength m) ⊎ BrokenAt m r
 
 -- ## Each case
 
-same-at : {v : Check} {a q b p : ℕ} → v ≡ Fault a q → v ≡ Fault b p → a ≡ b
+same-at : {v : Check} {a b : Offset} {q p : ℕ} → v ≡ Fault a q → v ≡ Fault b p → a .0 ≡ b .0
 same-at e g = cc
 
-no-fault : {v : Check} {a q : ℕ} → v ≡ Sound → v ≡ Fault a q → ⊥
+no-fault : {v : Check} {a : Offset} {q : ℕ} → v ≡ Sound → v ≡ Fault a q → ⊥
 no-fault e g = let z : _≡_ {A = ℕ} 0 1 = cc in omega arith
 
 module _ (m : List ℕ) (some : 1 ≤ length m) (few : length m ≤ maxMessage) where
-  says-broken : {at rule : ℕ} → Lowest m at rule → Says m (brokenAt at rule)
+  says-broken : {at : Offset} {rule : ℕ} → Lowest m (at .0) rule → Says m (brokenAt at rule)
   unfolding Says
   says-broken l = inr (record { some = some; few = few; number = refl; lowest = l })
 
   -- DER's fault, where the grammar is met or broken no earlier
-  of-der : {a q : ℕ} → check m ≡ Fault a q → (Unmet m → a ≤ messageOf m .cur .at) → Lowest m a q
+  of-der : {a : Offset} {q : ℕ} → check m ≡ Fault a q → (Unmet m → a .0 ≤ messageOf m .cur .at) → Lowest m (a .0) q
   of-der {a} {q} e f = record { der = λ b p g. omega (arith, same-at e g); grammar = f; named = inl (e, check-rule m e .0, check-rule m e .1) }
 
   -- the grammar's fault, where there is none of DER's or a later one
-  of-grammar : Unmet m → ((a q : ℕ) → check m ≡ Fault a q → messageOf m .cur .at < a) → Lowest m (messageOf m .cur .at) 5
+  of-grammar : Unmet m → ((a : Offset) (q : ℕ) → check m ≡ Fault a q → messageOf m .cur .at < a .0) → Lowest m (messageOf m .cur .at) 5
   of-grammar u f = record { der = λ a q e. omega (arith, f a q e); grammar = λ w. omega arith; named = inr (u, refl, refl, f) }
 
   says-lowest : (v : Check) → check m ≡ v → Says m (lowest v (messageOf m))
@@ -93,9 +94,9 @@ module _ (m : List ℕ) (some : 1 ≤ length m) (few : length m ≤ maxMessage) 
       (λ k. says-broken (of-grammar k (λ a q g. absurd (no-fault e g))))
   says-lowest (Fault a q) e =
       cond-both (Says m) (isOk (messageOf m .cur)) (λ k. says-broken (of-der e (λ u. absurd (true≢false (sym k ∙ u)))))
-      (λ k. cond-both (Says m) (ltb (messageOf m .cur .at) a)
-      (λ t. says-broken (of-grammar k (λ b p g. omega (arith, ltb-true (messageOf m .cur .at) a t, same-at e g))))
-      (λ t. says-broken (of-der e (λ u. ltb-false (messageOf m .cur .at) a t))))
+      (λ k. cond-both (Says m) (ltb (messageOf m .cur .at) (a .0))
+      (λ t. says-broken (of-grammar k (λ b p g. omega (arith, ltb-true (messageOf m .cur .at) (a .0) t, same-at e g))))
+      (λ t. says-broken (of-der e (λ u. ltb-false (messageOf m .cur .at) (a .0) t))))
 
 says : (m : List ℕ) → Says m (readingOf m)
 unfolding readingOf Says

@@ -4,6 +4,7 @@ use mathlib.Core.List.{List}
 use mathlib.Core.Bool.{Bool, true, false, cond, _||_}
 use lib.ListN.{length}
 use lib.Dec.{ltb, eqb}
+use Rattle.der.specs.declared.Offset.{Offset}
 use Rattle.der.specs.Element.{check}
 use Rattle.der.specs.declared.element.Check.{Check}
 use Rattle.der.specs.declared.element.Check.the-variants.{Sound, Fault}
@@ -23,13 +24,13 @@ abbrev pub badLength : Reading
 badLength = Refused (record { number = 1; at = record { 0 = 0 }; rule = 0 })
 
 -- refusal 2: not DER or not the grammar, at an offset, by the lowest rule broken there
-abbrev pub brokenAt : ℕ → ℕ → Reading
-brokenAt at rule = Refused (record { number = 2; at = record { 0 = at }; rule = rule })
+abbrev pub brokenAt : Offset → ℕ → Reading
+brokenAt at rule = Refused (record { number = 2; at = at; rule = rule })
 
 -- the lower of the two faults, if there is one; at one offset DER's rules 1 to 4 come before the grammar's 5
 unfoldable pub lowest : Check → MessageRead → Reading
-lowest Sound g = cond (isOk (g .cur)) (Clean (g .found)) (brokenAt (g .cur .at) 5)
-lowest (Fault at rule) g = cond (isOk (g .cur)) (brokenAt at rule) (cond (ltb (g .cur .at) at) (brokenAt (g .cur .at) 5) (brokenAt at rule))
+lowest Sound g = cond (isOk (g .cur)) (Clean (g .found)) (brokenAt (record { 0 = g .cur .at }) 5)
+lowest (Fault at rule) g = cond (isOk (g .cur)) (brokenAt at rule) (cond (ltb (g .cur .at) (at .0)) (brokenAt (record { 0 = g .cur .at }) 5) (brokenAt at rule))
 
 unfoldable pub readingOf : List ℕ → Reading
 readingOf m = cond (eqb (length m) 0 || ltb maxMessage (length m)) badLength (lowest (check m) (messageOf m))

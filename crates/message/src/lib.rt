@@ -1,8 +1,8 @@
 // Reads a message: every part that was found, or the refusal; and hands its parts back as parts of the caller's own bytes.
+use der::Offset;
 use der::element::Check;
 use der::element::check_elements;
 use grammar::Message;
-use grammar::Offset;
 use grammar::part_of;
 use grammar::pki_message::MessageRead;
 use grammar::pki_message::read_message;
@@ -25,25 +25,25 @@ pub enum Reading {
     Refused(ReadFault),
 }
 
-fn broken_at(at: usize, rule: u8) -> Reading
+fn broken_at(at: Offset, rule: u8) -> Reading
     ensures { λ r. ⌜ r ≡ brokenAt at rule ⌝ }
 {
     Reading::Refused(ReadFault {
         number: 2,
-        at: Offset(at),
+        at,
         rule,
     })
 }
 
-fn lower(at: usize, rule: u8, g: MessageRead) -> Reading
+fn lower(at: Offset, rule: u8, g: MessageRead) -> Reading
     ensures { λ r. ⌜ r ≡ lowest (Check.Fault at rule) g ⌝ }
 {
     let cur = g.cur;
     if cur.rule == 0 {
         return broken_at(at, rule);
     }
-    if cur.at < at {
-        return broken_at(cur.at, 5);
+    if cur.at < at.0 {
+        return broken_at(Offset(cur.at), 5);
     }
     broken_at(at, rule)
 }
@@ -59,7 +59,7 @@ fn lowest_fault(c: Check, g: MessageRead) -> Reading
                 let found = g.found;
                 return Reading::Clean(found);
             }
-            broken_at(cur.at, 5)
+            broken_at(Offset(cur.at), 5)
         }
     }
 }

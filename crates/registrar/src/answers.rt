@@ -1,5 +1,5 @@
 // The messages that the registrar gives to be sent, and the forms of its answers.
-use grammar::Offset;
+use der::Offset;
 use incoming::rows::bit_of;
 use incoming::rows::read_refusal;
 use message::ReadFault;
