@@ -8,17 +8,19 @@ use native.Mathlib.Omega.{arith}
 use borrow.Author.Tests.{ltb-true, ltb-false, eqb-true, eqb-false}
 use lib.ListN.{length}
 use lib.Dec.{ltb, eqb}
-use Rattle.der.specs.Element.{check, isSound}
+use Rattle.der.specs.Element.{maxDepth, check, isSound}
 use Rattle.der.specs.declared.Offset.{Offset}
 use Rattle.der.specs.declared.element.Check.{Check}
 use Rattle.der.specs.declared.element.Check.the-variants.{Sound, Fault}
 use Rattle.der.proofs.Auto.{or-cases, or-false-left, or-false-right}
 use Rattle.der.proofs.HeadLaws.{cond-both}
+use Rattle.der.proofs.ElementLaws.{fault-in}
 use Rattle.der.proofs.RuleLaws.{check-rule}
 use Rattle.grammar.specs.declared.Message.{Message}
 use Rattle.grammar.specs.Cursor.{isOk}
 use Rattle.grammar.specs.Message.{messageOf}
 use Rattle.grammar.proofs.Found.{FoundIn, found-in}
+use Rattle.grammar.proofs.FaultPlace.{grammar-in}
 use Rattle.message.specs.declared.Reading.{Reading}
 use Rattle.message.specs.declared.ReadFault.{ReadFault}
 use Rattle.message.specs.declared.Reading.the-variants.{Clean, Refused}
@@ -116,6 +118,9 @@ clean-found m x e = subst (Says m) e (says m)
 pub clean-places : (m : List ℕ) (x : Message) → readingOf m ≡ Clean x → FoundIn (length m) x
 clean-places m x e = let c = clean-found m x e in subst (FoundIn (length m)) (sym (c .found)) (found-in m (c .met))
 
+below-or-at : (a n : ℕ) → a ≤ n → (a < n) ⊎ (a ≡ n)
+below-or-at a n h = cond-both (λ (b : Bool). (a < n) ⊎ (a ≡ n)) (ltb a n) {x = true} {y = false} (λ t. inl (ltb-true a n t)) (λ t. inr (omega (arith, ltb-false a n t)))
+
 -- LOWEST FAULT: refusal 2 names the lowest of the two faults, and DER's where both stand at one offset
 pub refused-lowest : (m : List ℕ) (r : ReadFault) → readingOf m ≡ Refused r → r .number ≡ 2 → Lowest m (r .at .0) (r .rule)
 unfolding Says
@@ -124,6 +129,14 @@ refused-lowest m r e n = go (subst (Says m) e (says m))
     go : ((r .number ≡ 1) × NoLength m) ⊎ BrokenAt m r → Lowest m (r .at .0) (r .rule)
     go (inl p) = absurd (omega (arith, p .0))
     go (inr b) = b .lowest
+
+-- IN THE MESSAGE: refusal 2 names an offset in the message, or its end where the grammar misses a part there
+pub refused-inside : (m : List ℕ) (r : ReadFault) → readingOf m ≡ Refused r → r .number ≡ 2 → (r .at .0 < length m) ⊎ ((r .at .0 ≡ length m) × (r .rule ≡ 5))
+unfolding check
+refused-inside m r e n =
+    ⊎-elim (λ d. inl (omega (arith, fault-in maxDepth 0 m (d .0) .1)))
+    (λ g. ⊎-elim inl (λ p. inr (p, g .2)) (below-or-at (r .at .0) (length m) (omega (arith, g .1, grammar-in m))))
+    (refused-lowest m r e n .named)
 
 -- the reading is a refusal with this number
 unfoldable pub Numbered : ℕ → Reading → Type 0
