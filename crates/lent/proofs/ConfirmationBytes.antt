@@ -2,7 +2,7 @@
 use Prim.Native.Nat.{ℕ}
 use mathlib.Core.List.{List}
 use mathlib.Core.Bool.{Bool, true, false}
-use mathlib.Core.Path.{_≡_, refl, sym, _∙_, ap}
+use mathlib.Core.Path.{_≡_, refl, sym, _∙_, ap, subst}
 use mathlib.Core.Logic.{_⊎_, inl, inr}
 use native.Mathlib.Omega.{arith}
 use Rattle.message.specs.Read.{readingOf}
@@ -14,9 +14,8 @@ use Rattle.protocol.specs.declared.TransactionState.the-variants.{Confirmed, De
 use Rattle.protocol.specs.declared.TransactionTable.{TransactionTable}
 use Rattle.protocol.specs.declared.Outcome.{Outcome}
 use Rattle.protocol.specs.declared.Outcome.the-variants as outcome
-use Rattle.protocol.specs.declared.RegistrarAnswer.{RegistrarAnswer}
 use Rattle.protocol.specs.Registrar.{registrarMessage}
-use Rattle.protocol.specs.Confirmation.{LeadsTo, ConfirmationRule}
+use Rattle.protocol.specs.Confirmation.{LeadsTo, MovedAnswer, RepeatedAnswer, ConfirmationRule}
 use Rattle.protocol.proofs.ConfirmationRule.{confirmation-rule}
 use Rattle.packed.specs.Answer.{outcomeNumber}
 use Rattle.duskstall.specs.Boundary.{Crossing}
@@ -65,12 +64,13 @@ module _ (t : TransactionTable) (d : RegistrarInput) (bytes : List ℕ) (m : Mes
           moves = λ e. rule .moves (record { reads = reads; kind = kind; ends = is-done _ (sym code ∙ e) });
           done = λ r c.
               let v : (v : TransactionState) × LeadsTo m v = leads m (m .body .entry .«has_status») refl (c .match .status) in
-              code ∙ ap (λ (a : RegistrarAnswer). outcomeNumber (a .outcome)) (rule .moved r c (v .0) (v .1));
-          moved = λ r c v l. back ∙ rule .moved r c v l;
+              code ∙ ap outcomeNumber (rule .moved r c (v .0) (v .1) .0 .done);
+          moved = λ r c v l. subst (MovedAnswer t d r (c .match .id) (c .match .nonce) v) (sym back) (rule .moved r c v l);
           repeats = λ e. rule .repeats (record { reads = reads; kind = kind; ends = is-again _ (sym code ∙ e) });
-          again = λ r c. code ∙ ap (λ (a : RegistrarAnswer). outcomeNumber (a .outcome)) (rule .repeated r c);
-          repeated = λ r c. back ∙ rule .repeated r c;
+          again = λ r c. code ∙ ap outcomeNumber (rule .repeated r c .again);
+          repeated = λ r c. subst (RepeatedAnswer t d r (c .match .id) (c .match .nonce)) (sym back) (rule .repeated r c);
           else = stays;
+          refused = λ n k. code ∙ ap outcomeNumber (rule .else reads kind n k .0 .2);
         }
 
 confirms : (w : LentWorld) → ((c : RegistrarCall) (a : List ℕ) → LentPromise w (AtRegistrar c a)) → ConfirmsBytes w

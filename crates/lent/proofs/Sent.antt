@@ -5,7 +5,7 @@ use mathlib.Core.Bool.{Bool, true, false}
 use mathlib.Core.Option.{some}
 use mathlib.Core.Path.{_≡_, refl, sym, _∙_, ap, subst}
 use mathlib.Core.Logic.{inl, inr}
-use borrow.Author.Tests.{eqb-true, eq-eqb, ne-eqb}
+use borrow.Author.Tests.{eqb-true, eq-eqb}
 use lib.ListN.{drop, getD}
 use lib.Dec.{eqb}
 use Rattle.grammar.specs.declared.Message.{Message}
@@ -14,7 +14,7 @@ use Rattle.message.specs.declared.Reading.the-variants as read
 use Rattle.protocol.specs.declared.Outgoing.{Outgoing}
 use Rattle.protocol.specs.Run.{End, Event, sentBy}
 use Rattle.protocol.specs.Agreement.{Some, Gave, Issued, Carries, IssuedReading}
-use Rattle.protocol.proofs.Tests.{true-false, none-some, some-some, cases}
+use Rattle.protocol.proofs.Tests.{none-some, some-some, cases}
 use Rattle.packed.specs.Outgoing.{outgoingOf}
 use Rattle.lent.specs.Lent.{LentCall, AtRegistrar, AtEndEntity, EndEntityStart, LentEvent, isMade, registrarSent, endEntitySent, sentOf, eventOf, eventsOf}
 use Rattle.lent.specs.Places.{outgoingPlace, outgoingIn, sendsIn}
@@ -92,7 +92,6 @@ carries bytes m o c =
       id = c .id;
       senderNonce = c .senderNonce;
       recipNonce = λ e. c .recipNonce (eqb-true _ _ e);
-      noRecipNonce = λ e. c .noRecipNonce (λ q. true-false (sym (eq-eqb _ _ q) ∙ e));
       status = λ e. c .status (eqb-true _ _ e);
       hash = c .hash;
     }
@@ -111,7 +110,6 @@ carries-back bytes m o c =
       id = c .id;
       senderNonce = c .senderNonce;
       recipNonce = λ e. c .recipNonce (eq-eqb _ _ e);
-      noRecipNonce = λ d. c .noRecipNonce (ne-eqb _ _ d);
       status = λ e. c .status (eq-eqb _ _ e);
       hash = c .hash;
     }

@@ -12,7 +12,7 @@ use Rattle.protocol.specs.declared.RegistrarInput.{RegistrarInput}
 use Rattle.protocol.specs.declared.TransactionState.{TransactionState}
 use Rattle.protocol.specs.declared.Transaction.{Transaction}
 use Rattle.protocol.specs.declared.TransactionTable.{TransactionTable}
-use Rattle.protocol.specs.Confirmation.{LeadsTo, Moving, Repeating, movedAnswer, repeatedAnswer}
+use Rattle.protocol.specs.Confirmation.{LeadsTo, Moving, Repeating, MovedAnswer, RepeatedAnswer}
 use Rattle.packed.specs.Bytes.{AllBytes}
 use Rattle.packed.specs.Table.{tableBytes}
 use Rattle.duskstall.specs.Boundary.{Crossing}
@@ -26,13 +26,14 @@ pub record BytesConfirmed (t : TransactionTable) (d : RegistrarInput) (bytes : L
   -- it returns 0 exactly when it moves a transaction, and the bytes are then the complete answer
   pub moves : x .code ≡ 0 → (r : Transaction) × Moving t d bytes m r
   pub done : (r : Transaction) → Moving t d bytes m r → x .code ≡ 0
-  pub moved : (r : Transaction) (c : Moving t d bytes m r) → (v : TransactionState) → LeadsTo m v → registrarReadBack x ≡ movedAnswer t d r (c .match .id) (c .match .nonce) v
+  pub moved : (r : Transaction) (c : Moving t d bytes m r) → (v : TransactionState) → LeadsTo m v → MovedAnswer t d r (c .match .id) (c .match .nonce) v (registrarReadBack x)
   -- 1 exactly when it repeats the one that did
   pub repeats : x .code ≡ 1 → (r : Transaction) × Repeating t d bytes m r
   pub again : (r : Transaction) → Repeating t d bytes m r → x .code ≡ 1
-  pub repeated : (r : Transaction) (c : Repeating t d bytes m r) → registrarReadBack x ≡ repeatedAnswer t d (c .match .id) (c .match .nonce)
-  -- unless it moves one, the table's bytes stay
+  pub repeated : (r : Transaction) (c : Repeating t d bytes m r) → RepeatedAnswer t d r (c .match .id) (c .match .nonce) (registrarReadBack x)
+  -- unless it moves one, the table's bytes stay; where it neither moves one nor repeats, it returns 2: it is refused
   pub else : x .code ≢ 0 → x .state ≡ s
+  pub refused : ((r : Transaction) → Moving t d bytes m r → ⊥) → ((r : Transaction) → Repeating t d bytes m r → ⊥) → x .code ≡ 2
 
 -- of a call that is made, with bytes that read cleanly as a confirmation
 abbrev pub ConfirmsBytes : LentWorld → Type 0

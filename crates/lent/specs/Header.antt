@@ -49,12 +49,11 @@ Taken e = ltb (e .code) 2 ≡ true
 
 -- the message m, in these bytes, is what the bytes o say is to be sent
 pub record CarriesBytes (bytes : List ℕ) (m : Message) (o : List ℕ) : Type 0 where
-  -- "the same kind, id and nonces,"
+  -- "the same kind, id and nonces,": a recipNonce where the order has one
   pub kind : m .body .kind ≡ outgoingKind o
   pub id : HasPart bytes (m .header .«transaction_id») (outgoingId o)
   pub senderNonce : HasPart bytes (m .header .«sender_nonce») (outgoingSenderNonce o)
   pub recipNonce : outgoingHasRecipNonce o ≡ 1 → HasPart bytes (m .header .«recip_nonce») (outgoingRecipNonce o)
-  pub noRecipNonce : outgoingHasRecipNonce o ≢ 1 → m .header .«recip_nonce» .start .0 ≡ 0
   -- "the same status where the order has one (in a certConf none counts as 0),"
   pub status :
       outgoingHasStatus o ≡ 1

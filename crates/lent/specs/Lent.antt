@@ -11,7 +11,7 @@ use Rattle.protocol.specs.declared.TransactionId.{TransactionId}
 use Rattle.protocol.specs.declared.Outcome.{Outcome}
 use Rattle.protocol.specs.declared.Outgoing.{Outgoing}
 use Rattle.protocol.specs.Table.{emptyTable}
-use Rattle.protocol.specs.Run.{Call, Start, End, TheRegistrar, OneBoard, Event, World, BoardEnrolment, unlessRefused, sentBy, run}
+use Rattle.protocol.specs.Run.{Call, Start, End, TheRegistrar, OneBoard, NoEnd, Event, World, BoardEnrolment, unlessRefused, sentBy, run}
 use Rattle.protocol.specs.Agreement.{Fair, Agreement}
 use Rattle.packed.specs.Bytes.{flagAt}
 use Rattle.packed.specs.Outgoing.{outgoingOf}
@@ -83,7 +83,7 @@ abbrev pub startLent : LentWorld → LentCall → Board → Crossing → LentWor
 startLent w c b x = boardLent w c (OneBoard b) (cond (ltb (x .code) 2) (w .enrolments ++ (record { board = b; bytes = x .state } ∷ [])) (w .enrolments)) x
 
 abbrev pub enrolmentLent : LentWorld → LentCall → ℕ → Option LentEnrolment → Crossing → LentWorld
-enrolmentLent w c k none x = boardLent w c TheRegistrar (w .enrolments) x
+enrolmentLent w c k none x = boardLent w c NoEnd (w .enrolments) x
 enrolmentLent w c k (some e) x = boardLent w c (OneBoard (e .board)) (set (w .enrolments) k (record { board = e .board; bytes = x .state })) x
 
 unfoldable pub lentStep : LentWorld → LentCall → LentWorld

@@ -1,7 +1,7 @@
 -- What the steps read in a message that carries an outgoing message: the premise's words in the steps' terms.
 use Prim.Native.Nat.{ℕ}
 use mathlib.Core.List.{List}
-use mathlib.Core.Bool.{Bool, true, false}
+use mathlib.Core.Bool.{true, false}
 use mathlib.Core.Option.{none, some}
 use mathlib.Core.Path.{_≡_, refl, sym, _∙_, ap}
 use mathlib.Core.Logic.{_⊎_, inl, inr}
@@ -11,7 +11,7 @@ use Rattle.protocol.specs.declared.Nonce.{Nonce}
 use Rattle.protocol.specs.declared.Outgoing.{Outgoing}
 use Rattle.protocol.specs.Message.{optionalPart, Fields, fieldsOf, statusOr0}
 use Rattle.protocol.specs.Agreement.{HasPart, Carries}
-use Rattle.protocol.proofs.Tests.{other-than, some-some, none-some}
+use Rattle.protocol.proofs.Tests.{other-than, some-some}
 
 pub part-there : (bytes : List ℕ) (s : Span) (x : List ℕ) → HasPart bytes s x → optionalPart bytes s ≡ some x
 part-there bytes s x h = rw (other-than (s .start .0) 0 (h .0) _ refl) (ap some (h .1))
@@ -38,13 +38,9 @@ module _ (bytes : List ℕ) (m : Message) (o : Outgoing) (c : Carries bytes m o)
   unfolding fieldsOf
   sender-read = part-there bytes (m .header .«sender_nonce») (o .«sender_nonce» .bytes) (c .senderNonce)
 
-  recip-by : (n : Nonce) → f .recipNonce ≡ some (n .bytes) → (b : Bool) → o .«has_recip_nonce» ≡ b → o .«recip_nonce» ≡ n
+  pub recip-read : (n : Nonce) → o .«has_recip_nonce» ≡ true → f .recipNonce ≡ some (n .bytes) → o .«recip_nonce» ≡ n
   unfolding fieldsOf
-  recip-by n e true h = nonce-of (o .«recip_nonce») n (some-some (sym (part-there bytes (m .header .«recip_nonce») (o .«recip_nonce» .bytes) (c .recipNonce h)) ∙ e))
-  recip-by n e false h = none-some (sym (part-absent bytes (m .header .«recip_nonce») (c .noRecipNonce h)) ∙ e)
-
-  pub recip-read : (n : Nonce) → f .recipNonce ≡ some (n .bytes) → o .«recip_nonce» ≡ n
-  recip-read n e = recip-by n e (o .«has_recip_nonce») refl
+  recip-read n h e = nonce-of (o .«recip_nonce») n (some-some (sym (part-there bytes (m .header .«recip_nonce») (o .«recip_nonce» .bytes) (c .recipNonce h)) ∙ e))
 
   status-by : ((m .body .entry .«has_status» ≡ true) × (m .body .entry .status ≡ o .status)) ⊎ ((m .body .kind ≡ 24) × (m .body .entry .«has_status» ≡ false) × (o .status ≡ 0)) → o .status ≡ statusOr0 (f .status)
   unfolding fieldsOf

@@ -13,22 +13,24 @@ use Rattle.protocol.specs.declared.RegistrarInput.{RegistrarInput}
 use Rattle.protocol.specs.declared.TransactionState.{TransactionState}
 use Rattle.protocol.specs.declared.Transaction.{Transaction}
 use Rattle.protocol.specs.declared.TransactionTable.{TransactionTable}
+use Rattle.protocol.specs.declared.Outgoing.{Outgoing}
 use Rattle.protocol.specs.declared.Outcome.{Outcome}
 use Rattle.protocol.specs.declared.RegistrarAnswer.{RegistrarAnswer}
 use Rattle.protocol.specs.declared.Outcome.the-variants as outcome
 use Rattle.protocol.specs.Bytes.{asId, asNonce, present, isNonce, sameBytes, sameHash, sameNonce}
 use Rattle.protocol.specs.Message.{fieldsOf, Fields, isEnrolmentKind, isPresent, statusOr0, optionalStatus}
-use Rattle.protocol.specs.Table.{hasFreeSlot, lookup}
+use Rattle.protocol.specs.Table.{hasFreeSlot, lookup, slotOf, replace}
 use Rattle.protocol.specs.States.{hasSent, hasHash, isGranted, settledState, settledBy}
-use Rattle.protocol.specs.Refusals.{otherVersion, noTransactionId, noSenderNonce, unprotected, pass, lowestRow}
+use Rattle.protocol.specs.Refusals.{otherVersion, noTransactionId, noSenderNonce, unprotected, pass, lowestRow, noFault}
 use Rattle.protocol.specs.RegistrarRows.{repeats, confirms, opens, oneEntry, isGood, otherKind, confirmsForAnother, names, confirmsOtherNonce, notOneEntry, hasEntries, otherRequest, hashAlgTooEarly, otherStatus, otherHash, notTaken, registrarRows}
-use Rattle.protocol.specs.Registrar.{registrarMessage, confirmed, registrarChecked}
-use Rattle.protocol.specs.Promises.{RegistrarPromise, registrarNumbers}
-use Rattle.protocol.specs.Confirmation.{Matches, LeadsTo, Moving, movedAnswer, Repeating, repeatedAnswer, ConfirmationRule}
+use Rattle.protocol.specs.Registrar.{registrarMessage, confirmed, registrarChecked, doneSending}
+use Rattle.protocol.specs.MessageRules.{IsRefused}
+use Rattle.protocol.specs.Confirmation.{Matches, LeadsTo, Moving, MovedAnswer, Repeating, RepeatedAnswer, acknowledgement, ConfirmationRule}
 use Rattle.protocol.proofs.Tests.{same-number, holds-not, either, both, or-true, off-right, sameBytes-refl, off-left, true-false}
 use Rattle.protocol.proofs.Carried.{part-there}
 use Rattle.protocol.proofs.Rows.{check-is, skip, through}
 use Rattle.protocol.proofs.RegistrarPromises.{message-promise}
+use Rattle.protocol.proofs.Slots.{held-at, sending-becomes}
 use Rattle.protocol.proofs.ConfirmationMoves.{present-test, part-present, present-part, message-at, fields-at, Ends, EndsWith, ends}
 
 module _ (t : TransactionTable) (d : RegistrarInput) (bytes : List ℕ) (m : Message) (r : Transaction) (c : Matches t d bytes m r) where
@@ -148,11 +150,15 @@ module _ (t : TransactionTable) (d : RegistrarInput) (bytes : List ℕ) (m : Mes
   unfolding fieldsOf
   state-is s q = state-by (m .body .entry .«has_status») refl s q
 
-  pub moved : (c : Moving t d bytes m r) (s : TransactionState) → LeadsTo m s → registrarMessage t d bytes ≡ movedAnswer t d r (c .match .id) (c .match .nonce) s
+  pub moved : (c : Moving t d bytes m r) (s : TransactionState) → LeadsTo m s → MovedAnswer t d r (c .match .id) (c .match .nonce) s (registrarMessage t d bytes)
   moved c s q =
       let g : isGranted (r .state) ≡ true = rw (c .granted) in
+      let x : Transaction = record { id = r .id; board = r .board; kind = r .kind; taken = c .match .nonce; sent = r .sent; hash = r .hash; state = s } in
+      let o : Outgoing = acknowledgement d (c .match .id) (c .match .nonce) in
+      let e : registrarMessage t d bytes ≡ doneSending (slotOf (t .transactions) (c .match .id)) (replace (t .transactions) (c .match .id) x) o =
       passed t d bytes m r (c .match) (rw (c .granted)) (rw (c .granted)) (ap (λ (b : Bool). b || repeats r (fieldsOf bytes m)) g)
-      ∙ rw (g, id-is t d bytes m r (c .match), nonce-is t d bytes m r (c .match), state-is s q)
+      ∙ rw (g, id-is t d bytes m r (c .match), nonce-is t d bytes m r (c .match), state-is s q) in
+      subst (MovedAnswer t d r (c .match .id) (c .match .nonce) s) (sym e) (sending-becomes t (c .match .id) r x (c .match .holds) o, (refl, refl))
 
   -- what the state of a repeated confirmation says
   leads-sent : (s : TransactionState) → LeadsTo m s → (hasSent s ≡ true) × (hasHash s ≡ true) × (isGranted s ≡ false)
@@ -174,18 +180,32 @@ module _ (t : TransactionTable) (d : RegistrarInput) (bytes : List ℕ) (m : Mes
       ∙ ap (λ (n : Nonce). sameNonce n (r .taken)) (c .nonce)
       ∙ sameBytes-refl (r .taken .bytes))
 
-  pub repeated : (c : Repeating t d bytes m r) → registrarMessage t d bytes ≡ repeatedAnswer t d (c .match .id) (c .match .nonce)
+  pub repeated : (c : Repeating t d bytes m r) → RepeatedAnswer t d r (c .match .id) (c .match .nonce) (registrarMessage t d bytes)
   repeated c =
       let l : (hasSent (r .state) ≡ true) × (hasHash (r .state) ≡ true) × (isGranted (r .state) ≡ false) = leads-sent (r .state) (c .state) in
+      let a : RegistrarAnswer =
+      record { outcome = outcome.Again; fault = noFault; slot = record { 0 = slotOf (t .transactions) (c .match .id) }; sends = true; outgoing = acknowledgement d (c .match .id) (c .match .nonce); table = t } in
+      let e : registrarMessage t d bytes ≡ a =
       passed t d bytes m r (c .match) (l .0) (l .1) (or-true (isGranted (r .state)) (repeats r (fieldsOf bytes m)) (repeats-it c))
-      ∙ rw (l .2, id-is t d bytes m r (c .match), nonce-is t d bytes m r (c .match))
+      ∙ rw (l .2, id-is t d bytes m r (c .match), nonce-is t d bytes m r (c .match)) in
+      subst (RepeatedAnswer t d r (c .match .id) (c .match .nonce)) (sym e) (record { again = refl; fault = refl; held = held-at t (c .match .id) r (c .match .holds); sends = (refl, refl); table = refl })
 
 -- ## The rule
 
-stays : (t : TransactionTable) (ns : List ℕ) (a : RegistrarAnswer) → RegistrarPromise ns t a → (o : Outcome) → a .outcome ≡ o → (a .outcome ≡ outcome.Done → ⊥) → a .table ≡ t
-stays t ns a p outcome.Done e d = absurd (d e)
-stays t ns a p outcome.Again e d = p .again e
-stays t ns a p (outcome.Refused n b) e d = p .unchanged n b e
+-- what neither moves nor repeats is refused, and the table stays
+neither-at :
+    (t : TransactionTable) (d : RegistrarInput) (bytes : List ℕ) (m : Message) → ((r : Transaction) → Moving t d bytes m r → ⊥) →
+    ((r : Transaction) → Repeating t d bytes m r → ⊥) → (o : Outcome) → registrarMessage t d bytes .outcome ≡ o → EndsWith t d bytes m o →
+    IsRefused (registrarMessage t d bytes .outcome) × (registrarMessage t d bytes .table ≡ t)
+unfolding EndsWith Ends
+neither-at t d bytes m n k outcome.Done e g = absurd (n (g .0) (g .1))
+neither-at t d bytes m n k outcome.Again e g = absurd (k (g .0) (g .1))
+neither-at t d bytes m n k (outcome.Refused j b) e g = ((j, b, e), message-promise t d bytes .unchanged j b e)
+
+stays-at : (t : TransactionTable) (d : RegistrarInput) (bytes : List ℕ) (o : Outcome) → registrarMessage t d bytes .outcome ≡ o → (registrarMessage t d bytes .outcome ≡ outcome.Done → ⊥) → registrarMessage t d bytes .table ≡ t
+stays-at t d bytes outcome.Done e n = absurd (n e)
+stays-at t d bytes outcome.Again e n = message-promise t d bytes .again e
+stays-at t d bytes (outcome.Refused k b) e n = message-promise t d bytes .unchanged k b e
 
 pub confirmation-rule : (t : TransactionTable) (d : RegistrarInput) (bytes : List ℕ) (m : Message) → ConfirmationRule t d bytes m
 unfolding EndsWith Ends
@@ -195,5 +215,6 @@ confirmation-rule t d bytes m =
       moved = λ r c. moved t d bytes m r c;
       repeats = λ v. subst (EndsWith t d bytes m) (v .ends) (ends t d bytes m (v .reads) (v .kind));
       repeated = λ r c. repeated t d bytes m r c;
-      else = λ n. stays t registrarNumbers (registrarMessage t d bytes) (message-promise t d bytes) (registrarMessage t d bytes .outcome) refl n;
+      else = λ reads kind n k. neither-at t d bytes m n k (registrarMessage t d bytes .outcome) refl (ends t d bytes m reads kind);
+      stays = stays-at t d bytes (registrarMessage t d bytes .outcome) refl;
     }

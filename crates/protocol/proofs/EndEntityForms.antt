@@ -47,7 +47,7 @@ module _ (w : World) (v : Inv w) where
       (o : Option Outgoing)
       (here : At (w .enrolments) k x)
       (kept : Kept x y)
-      (stands : (p : Outgoing) → o ≡ some p → p .kind ≡ certConf → (y .enrolment .id ≡ p .id) × (y .enrolment .last ≡ p .«sender_nonce») × (y .enrolment .hash ≡ p .hash) × (standsFor (y .enrolment .state) (p .status) ≡ true) × (p .«has_status» ≡ true))
+      (stands : (p : Outgoing) → o ≡ some p → p .kind ≡ certConf → (y .enrolment .id ≡ p .id) × (y .enrolment .last ≡ p .«sender_nonce») × (y .enrolment .hash ≡ p .hash) × (standsFor (y .enrolment .state) (p .status) ≡ true) × (p .«has_status» ≡ true) × (p .«has_recip_nonce» ≡ true))
       (sent : (s : ℕ) → hasConfirmed (y .enrolment .state) s ≡ true → SentNow (x .board) o y s ⊎ Sent (w .past) y s)
       (answered : isAnswered (y .enrolment .state) ≡ true → Answered (w .past) y)
     where
@@ -66,8 +66,8 @@ module _ (w : World) (v : Inv w) where
       one-stays j z h (yes e) = (y, ap (getElem? l′) (sym e) ∙ there, subst (λ (u : BoardEnrolment). Kept u y) (some-some (sym here ∙ ap (getElem? (w .enrolments)) e ∙ h)) kept)
       one-stays j z h (no d) = (z, at-set-other (w .enrolments) k j y d ∙ h, kept-same z)
 
-      one-stands : (p : Outgoing) → (y .enrolment .id ≡ p .id) × (y .enrolment .last ≡ p .«sender_nonce») × (y .enrolment .hash ≡ p .hash) × (standsFor (y .enrolment .state) (p .status) ≡ true) × (p .«has_status» ≡ true) → Stands l′ (x .board) p
-      one-stands p t = record { place = k; held = y; holds = there; board = kept .board; id = t .0; last = t .1; hash = t .2; state = t .3; rated = t .4 }
+      one-stands : (p : Outgoing) → (y .enrolment .id ≡ p .id) × (y .enrolment .last ≡ p .«sender_nonce») × (y .enrolment .hash ≡ p .hash) × (standsFor (y .enrolment .state) (p .status) ≡ true) × (p .«has_status» ≡ true) × (p .«has_recip_nonce» ≡ true) → Stands l′ (x .board) p
+      one-stands p t = record { place = k; held = y; holds = there; board = kept .board; id = t .0; last = t .1; hash = t .2; state = t .3; rated = t .4; answers = t .5 }
 
       one-sent : (j : ℕ) (z : BoardEnrolment) (s : ℕ) → hasConfirmed (z .enrolment .state) s ≡ true → ((k ≡ j) × (y ≡ z)) ⊎ At (w .enrolments) j z → SentNow (x .board) o z s ⊎ Sent (w .past) z s
       one-sent j z s t (inl g) =

@@ -104,7 +104,7 @@ module _ (w : World) (v : Inv w) (k : ℕ) (x : BoardEnrolment) (here : At (w .e
     abbrev conf : Outgoing
     conf = certConfOut (x .enrolment .id) n a (decision accept) h
 
-    conf-stands : (p : Outgoing) → some conf ≡ some p → (settledOn .enrolment .id ≡ p .id) × (settledOn .enrolment .last ≡ p .«sender_nonce») × (settledOn .enrolment .hash ≡ p .hash) × (standsFor (settledOn .enrolment .state) (p .status) ≡ true) × (p .«has_status» ≡ true)
+    conf-stands : (p : Outgoing) → some conf ≡ some p → (settledOn .enrolment .id ≡ p .id) × (settledOn .enrolment .last ≡ p .«sender_nonce») × (settledOn .enrolment .hash ≡ p .hash) × (standsFor (settledOn .enrolment .state) (p .status) ≡ true) × (p .«has_status» ≡ true) × (p .«has_recip_nonce» ≡ true)
     conf-stands p e =
         let q : conf ≡ p = some-some e in (
           ap (λ (y : Outgoing). y .id) q,
@@ -112,6 +112,7 @@ module _ (w : World) (v : Inv w) (k : ℕ) (x : BoardEnrolment) (here : At (w .e
           ap (λ (y : Outgoing). y .hash) q,
           ap (λ (y : Outgoing). standsFor (decided accept) (y .status)) (sym q) ∙ decided-stands accept,
           sym (ap (λ (y : Outgoing). y .«has_status») q),
+          sym (ap (λ (y : Outgoing). y .«has_recip_nonce») q),
         )
 
     decides : isWaiting (x .enrolment .state) ≡ true → EnrolmentStep (confirming (x .enrolment) accept h n a)
@@ -168,7 +169,7 @@ module _ (w : World) (v : Inv w) (k : ℕ) (x : BoardEnrolment) (here : At (w .e
           issued = i;
           kind = sym (kind-read bytes m o c) ∙ t;
           id = λ j. record { bytes = p j };
-          recip = recip-read bytes m o c (x .enrolment .last) recip-it;
+          recip = recip-read bytes m o c (x .enrolment .last) (v .acknowledges o i (sym (kind-read bytes m o c) ∙ t) .0 .answers) recip-it;
         }
 
     answered-with : (g : Bool) → g ≡ true → ByReading g bytes (read.Clean m) (w .past) → f .kind ≡ pkiConf → Answered (w .past) x

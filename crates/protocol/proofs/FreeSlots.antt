@@ -3,7 +3,7 @@ use Prim.Native.Nat.{ℕ, zero, suc, _≤_}
 use mathlib.Core.List.{List, [], _∷_}
 use mathlib.Core.Bool.{Bool, true, false, cond}
 use mathlib.Core.Option.{some}
-use mathlib.Core.Path.{_≡_, refl, sym, _∙_, ap}
+use mathlib.Core.Path.{_≡_, refl, sym}
 use native.Mathlib.Omega.{arith}
 use lib.ListN.{getElem?}
 use Rattle.protocol.specs.declared.Transaction.{Transaction}
@@ -45,14 +45,19 @@ unfolding hasFreeSlot put freeSlot
 put-there [] x h = true-false (sym h)
 put-there (r ∷ rs) x h = put-at x r rs (λ q. put-there rs x q) (isFree (r .state)) h
 
-was-free-at : (r : Transaction) (rs : List Transaction) (x : Transaction) → (getElem? rs (freeSlot rs) ≡ some x → x .state ≡ at-registrar.Free) → (b : Bool) → isFree (r .state) ≡ b → getElem? (r ∷ rs) (cond b 0 (suc (freeSlot rs))) ≡ some x → x .state ≡ at-registrar.Free
-was-free-at r rs x ih true q e = is-free (x .state) (ap (λ (y : Transaction). isFree (y .state)) (sym (some-some e)) ∙ q)
-was-free-at r rs x ih false q e = ih e
+was-free-at :
+    (r : Transaction) (rs : List Transaction) →
+    (hasFreeSlot rs ≡ true → (x : Transaction) × (getElem? rs (freeSlot rs) ≡ some x) × (x .state ≡ at-registrar.Free)) → (b : Bool) →
+    isFree (r .state) ≡ b → cond b true (hasFreeSlot rs) ≡ true →
+    (x : Transaction) × (getElem? (r ∷ rs) (cond b 0 (suc (freeSlot rs))) ≡ some x) × (x .state ≡ at-registrar.Free)
+was-free-at r rs ih true q h = (r, refl, is-free (r .state) q)
+was-free-at r rs ih false q h = ih h
 
-pub was-free : (rs : List Transaction) (x : Transaction) → getElem? rs (freeSlot rs) ≡ some x → x .state ≡ at-registrar.Free
-unfolding freeSlot
-was-free [] x e = none-some e
-was-free (r ∷ rs) x e = was-free-at r rs x (λ q. was-free rs x q) (isFree (r .state)) refl e
+-- where there is room, the lowest free slot is one of the table, and free
+pub was-free : (rs : List Transaction) → hasFreeSlot rs ≡ true → (x : Transaction) × (getElem? rs (freeSlot rs) ≡ some x) × (x .state ≡ at-registrar.Free)
+unfolding hasFreeSlot freeSlot
+was-free [] h = true-false (sym h)
+was-free (r ∷ rs) h = was-free-at r rs (λ q. was-free rs q) (isFree (r .state)) refl h
 
 lowest-at : (r : Transaction) (rs : List Transaction) (p : ℕ) → freeSlot rs ≤ p → (b : Bool) → cond b 0 (suc (freeSlot rs)) ≤ suc p
 lowest-at r rs p h true = omega arith

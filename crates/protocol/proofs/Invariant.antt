@@ -36,6 +36,7 @@ pub record Stands (l : List BoardEnrolment) (b : Board) (o : Outgoing) : Type 0 
   pub hash : held .enrolment .hash ≡ o .hash
   pub state : standsFor (held .enrolment .state) (o .status) ≡ true
   pub rated : o .«has_status» ≡ true
+  pub answers : o .«has_recip_nonce» ≡ true
 
 -- the certConf of status s that the enrolment sent
 pub record Sent (past : List Event) (x : BoardEnrolment) (s : ℕ) : Type 0 where
@@ -71,6 +72,7 @@ pub record Acknowledged (past : List Event) (p : Outgoing) : Type 0 where
   pub kind : message .kind ≡ certConf
   pub sender : message .«sender_nonce» ≡ p .«recip_nonce»
   pub id : message .id ≡ p .id
+  pub answers : p .«has_recip_nonce» ≡ true
 
 -- the registrar sent this nonce
 pub record SentNonce (past : List Event) (n : Nonce) : Type 0 where

@@ -15,11 +15,13 @@ pub mod EndEntityForms
 pub mod EndEntitySteps
 pub mod Theorem
 pub mod Changes
+pub mod Slots
 pub mod Rows
 pub mod RegistrarPromises
 pub mod ConfirmationMoves
 pub mod ConfirmationRule
 pub mod Reachable
+pub mod TheTransaction
 pub mod EndEntityPromises
 pub mod LowestRow
 pub mod Rules

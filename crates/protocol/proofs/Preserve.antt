@@ -1,9 +1,9 @@
--- A call that shows a RegistrarStep or a EndEntityStep leaves the invariant standing.
+-- A call that shows a RegistrarStep or a EndEntityStep leaves the invariant standing, and so does one on no enrolment.
 use Prim.Native.Nat.{ℕ}
 use mathlib.Core.List.{List, _∷_}
 use mathlib.Core.Bool.{true}
 use mathlib.Core.Option.{Option, none, some}
-use mathlib.Core.Path.{_≡_, refl, sym, _∙_, ap}
+use mathlib.Core.Path.{_≡_, refl, sym, _∙_, ap, subst}
 use mathlib.Core.Logic.{_⊎_, inl, inr}
 use native.Mathlib.Omega.{arith}
 use lib.ListN.{length}
@@ -15,8 +15,9 @@ use Rattle.protocol.specs.declared.TransactionTable.{TransactionTable}
 use Rattle.protocol.specs.declared.Outgoing.{Outgoing}
 use Rattle.protocol.specs.Message.{pkiConf, certConf}
 use Rattle.protocol.specs.Table.{lookup}
-use Rattle.protocol.specs.Run.{TheRegistrar, OneBoard, Event, Call, World, BoardEnrolment}
-use Rattle.protocol.specs.Agreement.{Issued, ClosedSince, Some, SaysConfirmed}
+use Rattle.protocol.specs.Run.{End, TheRegistrar, OneBoard, NoEnd, Event, Call, World, BoardEnrolment}
+use Rattle.protocol.specs.Agreement.{Issued, ClosedSince, Some, RegistrarHolds, SaysConfirmed}
+use Rattle.protocol.proofs.Tests.{none-some}
 use Rattle.protocol.proofs.RegistrarStates.{settled-sent, confirmed-0}
 use Rattle.protocol.proofs.EnrolmentStates.{standsFor}
 use Rattle.protocol.proofs.Lookup.{holds-found}
@@ -47,7 +48,7 @@ module _ (e : Event) {past : List Event} where
   answered-more t = record { message = t .message; issued = inr (t .issued); kind = t .kind; id = t .id; recip = t .recip }
 
   abbrev acknowledged-more : {p : Outgoing} → Acknowledged past p → Acknowledged (e ∷ past) p
-  acknowledged-more t = record { board = t .board; message = t .message; issued = inr (t .issued); kind = t .kind; sender = t .sender; id = t .id }
+  acknowledged-more t = record { board = t .board; message = t .message; issued = inr (t .issued); kind = t .kind; sender = t .sender; id = t .id; answers = t .answers }
 
   nonce-more : {n : Nonce} → SentNonce past n → SentNonce (e ∷ past) n
   nonce-more t = record { message = t .message; issued = inr (t .issued); sender = t .sender }
@@ -113,6 +114,46 @@ module _ (w : World) (c : Call) (o : Option Outgoing) (cl : Option TransactionId
         unique = d .unique;
       }
 
+-- ## A call that leaves the table as it was
+
+module _ (w : World) (v : Inv w) (e : Event) where
+  acknowledges-still :
+      (p : Outgoing) →
+      (n : Acknowledged (w .past) p) × (ClosedSince (n .message .id) (n .message .«recip_nonce») (w .past) ⊎ Settled (w .table) (n .message)) →
+      (n : Acknowledged (e ∷ w .past) p) × (ClosedSince (n .message .id) (n .message .«recip_nonce») (e ∷ w .past) ⊎ Settled (w .table) (n .message))
+  acknowledges-still p (n, inl h) = (acknowledged-more e n, inl (inr h))
+  acknowledges-still p (n, inr s) = (acknowledged-more e n, inr s)
+
+  said-still : e .table ≡ w .table → (i : TransactionId) → Some (λ f. SaysConfirmed (f .table) i) (e ∷ w .past) → Accepted (e ∷ w .past) i
+  said-still q i (inl (r, h, t)) = accepted-by e (v .settled i r 0 (holds-found (w .table) i r (v .unique) (subst (λ (b : TransactionTable). RegistrarHolds b i r) q h)) (confirmed-0 (r .state) t))
+  said-still q i (inr h) = accepted-more e (v .said i h)
+
+-- ## A call on an enrolment that there is not
+
+module _ (w : World) (c : Call) (v : Inv w) where
+  abbrev e₁ : Event
+  e₁ = record { call = c; end = NoEnd; sent = none; drawn = none; closed = none; table = w .table }
+
+  -- it sent nothing
+  old-one : (p : End) (q : Outgoing) → Issued p q (e₁ ∷ w .past) → Issued p q (w .past)
+  old-one p q (inl g) = none-some (g .1)
+  old-one p q (inr i) = i
+
+  pub nowhere-preserves : Inv (record { table = w .table; enrolments = w .enrolments; past = e₁ ∷ w .past })
+  nowhere-preserves =
+      record {
+        stands = λ b q i k. v .stands b q (old-one (OneBoard b) q i) k;
+        sent = λ k x s h t. sent-more e₁ (v .sent k x s h t);
+        answered = λ k x h t. answered-more e₁ (v .answered k x h t);
+        acknowledges = λ p i k. acknowledges-still w v e₁ p (v .acknowledges p (old-one TheRegistrar p i) k);
+        responded = λ i r h t. nonce-more e₁ (v .responded i r h t);
+        settled = λ i r s h t. settled-more e₁ (v .settled i r s h t);
+        said = said-still w v e₁ refl;
+        drawn = λ k x h. inr (v .drawn k x h);
+        distinct = v .distinct;
+        unique = v .unique;
+      }
+
 -- ## A call at a board
 
 module _
@@ -135,12 +176,12 @@ module _
 
     stands-new : (b₂ : Board) (q : Outgoing) → b ≡ b₂ → Stands l′ b q → Stands l′ b₂ q
     stands-new b₂ q p s =
-        record { place = s .place; held = s .held; holds = s .holds; board = s .board ∙ p; id = s .id; last = s .last; hash = s .hash; state = s .state; rated = s .rated }
+        record { place = s .place; held = s .held; holds = s .holds; board = s .board ∙ p; id = s .id; last = s .last; hash = s .hash; state = s .state; rated = s .rated; answers = s .answers }
 
     stands-old : (b₂ : Board) (q : Outgoing) (s : Stands (w .enrolments) b₂ q) → (y : BoardEnrolment) × At l′ (s .place) y × Kept (s .held) y → Stands l′ b₂ q
     stands-old b₂ q s (y, h, k) =
         let t : (y .enrolment .last ≡ s .held .enrolment .last) × (y .enrolment .hash ≡ s .held .enrolment .hash) × (standsFor (y .enrolment .state) (q .status) ≡ true) = k .stands (q .status) (s .state) in
-        record { place = s .place; held = y; holds = h; board = k .board ∙ s .board; id = k .id ∙ s .id; last = t .0 ∙ s .last; hash = t .1 ∙ s .hash; state = t .2; rated = s .rated }
+        record { place = s .place; held = y; holds = h; board = k .board ∙ s .board; id = k .id ∙ s .id; last = t .0 ∙ s .last; hash = t .1 ∙ s .hash; state = t .2; rated = s .rated; answers = s .answers }
 
     stands : (b₂ : Board) (q : Outgoing) → Issued (OneBoard b₂) q (e₂ ∷ w .past) → q .kind ≡ certConf → Stands l′ b₂ q
     stands b₂ q (inl g) k = let p : OneBoard b ≡ OneBoard b₂ = g .0 in stands-new b₂ q (cc) (d .stands q (g .1) k)
@@ -153,17 +194,6 @@ module _
     sent-cases y s (inl g) =
         record { message = g .1; issued = inl (ap OneBoard (sym (g .0)), g .2); kind = g .3; id = g .4; sender = g .5; hash = g .6; status = g .7 }
     sent-cases y s (inr t) = sent-more e₂ t
-
-    board-acknowledges :
-        (p : Outgoing) →
-        (n : Acknowledged (w .past) p) × (ClosedSince (n .message .id) (n .message .«recip_nonce») (w .past) ⊎ Settled (w .table) (n .message)) →
-        (n : Acknowledged (e₂ ∷ w .past) p) × (ClosedSince (n .message .id) (n .message .«recip_nonce») (e₂ ∷ w .past) ⊎ Settled (w .table) (n .message))
-    board-acknowledges p (n, inl h) = (acknowledged-more e₂ n, inl (inr h))
-    board-acknowledges p (n, inr s) = (acknowledged-more e₂ n, inr s)
-
-    board-said : (i : TransactionId) → Some (λ f. SaysConfirmed (f .table) i) (e₂ ∷ w .past) → Accepted (e₂ ∷ w .past) i
-    board-said i (inl (r, h, t)) = accepted-by e₂ (v .settled i r 0 (holds-found (w .table) i r (v .unique) h) (confirmed-0 (r .state) t))
-    board-said i (inr h) = accepted-more e₂ (v .said i h)
 
     drawn-cases : (k : ℕ) (y : BoardEnrolment) → ((x : BoardEnrolment) × At (w .enrolments) k x × (x .enrolment .id ≡ y .enrolment .id)) ⊎ ((dr ≡ some (y .enrolment .id)) × (k ≡ length (w .enrolments))) → Some (λ f. f .drawn ≡ some (y .enrolment .id)) (e₂ ∷ w .past)
     drawn-cases k y (inl (x, h, p)) = inr (rw (← p) (v .drawn k x h))
@@ -184,10 +214,10 @@ module _
           stands = stands;
           sent = λ k y s h t. sent-cases y s (d .sent k y s h t);
           answered = λ k y h t. answered-more e₂ (d .answered k y h t);
-          acknowledges = λ p i k. board-acknowledges p (v .acknowledges p (old-registrar p i) k);
+          acknowledges = λ p i k. acknowledges-still w v e₂ p (v .acknowledges p (old-registrar p i) k);
           responded = λ i r h t. nonce-more e₂ (v .responded i r h t);
           settled = λ i r s h t. settled-more e₂ (v .settled i r s h t);
-          said = board-said;
+          said = said-still w v e₂ refl;
           drawn = λ k y h. drawn-cases k y (d .comes k y h);
           distinct = λ j k x y h h₂ p. distinct-cases j k x y p (d .comes j x h) (d .comes k y h₂);
           unique = v .unique;

@@ -76,7 +76,7 @@ module _ (w : World) (v : Inv w) (bytes : List ℕ) (m : Message) where
         kind = k;
         id = sym (ap asId (id-read bytes m o c));
         sender = sym (ap asNonce (sender-read bytes m o c));
-        recip = recip-read bytes m o c (r .sent) (recip-it (recs w v) r (Good a) f e);
+        recip = recip-read bytes m o c (r .sent) (v .stands a o q k .answers) (recip-it (recs w v) r (Good a) f e);
         hash = hash-read bytes m o c (kind-is (recs w v) r (Good a) f e) one ∙ hash-it (recs w v) r (Good a) f e;
         status = status-read bytes m o c (v .stands a o q k .rated) one;
         known = known-it (recs w v) r (Good a) f e;
@@ -105,6 +105,7 @@ module _ (w : World) (v : Inv w) (m : Fields) (n : Nonce) where
         kind = c .kind;
         sender = c .sender ∙ ap (λ (y : Outgoing). y .«recip_nonce») q;
         id = c .id ∙ ap (λ (y : Outgoing). y .id) q;
+        answers = ap (λ (y : Outgoing). y .«has_recip_nonce») (sym q);
       }
 
   again : (r : Transaction) (o : Outgoing) → Confirms (w .past) r m o → lookup (recs w v) i ≡ some r → isGranted (r .state) ≡ false → RegistrarStep (w .past) (w .table) (w .table) (some pkiconf) none

@@ -37,6 +37,7 @@ use Rattle.protocol.proofs.RegistrarPasses.{passes-7, room, conf}
 use Rattle.protocol.proofs.Rows.{check-is, skip, through}
 use Rattle.protocol.proofs.RegistrarPromises.{done-refused}
 use Rattle.protocol.proofs.ConfirmationMoves.{sixteen, present-part, message-at, fields-at, present-test, part-present}
+use Rattle.protocol.proofs.Slots.{put-only}
 use Rattle.protocol.proofs.FreeSlots.{room-free, free-room, put-there, was-free, lowest-free}
 
 good-names : (v : Verdict) → isGood v ≡ true → (b : Board) × (v ≡ Good b)
@@ -203,10 +204,10 @@ module _ (t : TransactionTable) (d : RegistrarInput) (bytes : List ℕ) (m : Mes
     opened-it =
         record {
           done = refl;
-          silently = refl;
-          nothing = refl;
-          asked = put-there rs new room-it;
-          wasFree = was-free rs;
+          fault = refl;
+          silently = (refl, refl);
+          asked = put-only t new (put-there rs new room-it);
+          wasFree = was-free rs room-it;
           lowest = lowest-free rs;
         }
 

@@ -38,6 +38,7 @@ use Rattle.protocol.proofs.Tests.{none-some, some-some, true-false, T�
 use Rattle.protocol.proofs.RegistrarStates.{not-asked, not-granted, MayClose, may-close, not-close}
 use Rattle.protocol.proofs.RegistrarPromises.{refused-bit, refused-number, done-refused, again-refused}
 use Rattle.protocol.proofs.ConfirmationMoves.{message-at}
+use Rattle.protocol.proofs.Slots.{sending-becomes, quietly-becomes}
 
 -- ## Host steps
 
@@ -56,17 +57,22 @@ module _ (t : TransactionTable) (i : TransactionId) (Allowed : TransactionState 
   else-at none r e a = none-some e
   else-at (some s) r e a = rw (some-some e, no-it (r .state) a)
 
-  host-rule : HostRule t i Allowed next (hostStep (lookup (t .transactions) i) t (λ r. ok (r .state)) next)
-  host-rule = record { unknown = unknown-at (lookup (t .transactions) i); done = λ r. done-at (lookup (t .transactions) i) r; else = λ r. else-at (lookup (t .transactions) i) r }
+  host-rule : (Next : Transaction → RegistrarAnswer → Type 0) → ((r : Transaction) → lookup (t .transactions) i ≡ some r → Next r (next r)) → HostRule t i Allowed Next (hostStep (lookup (t .transactions) i) t (λ r. ok (r .state)) next)
+  host-rule Next n =
+      record {
+        unknown = unknown-at (lookup (t .transactions) i);
+        done = λ r e a. subst (Next r) (sym (done-at (lookup (t .transactions) i) r e a)) (n r e);
+        else = λ r. else-at (lookup (t .transactions) i) r;
+      }
 
 pub host-rules : (t : TransactionTable) (i : TransactionId) → HostRules t i
 unfolding registrarIssue registrarRefuse registrarLapse registrarClose
 host-rules t i =
     record {
-      issue = λ n h. host-rule t i (λ s. s ≡ at-registrar.Asked) isAsked (λ s e. rw e) not-asked _;
-      refuse = λ n. host-rule t i (λ s. s ≡ at-registrar.Asked) isAsked (λ s e. rw e) not-asked _;
-      lapse = host-rule t i (λ s. s ≡ at-registrar.Granted) isGranted (λ s e. rw e) not-granted _;
-      close = host-rule t i MayClose mayClose may-close not-close _;
+      issue = λ n h. host-rule t i (λ s. s ≡ at-registrar.Asked) isAsked (λ s e. rw e) not-asked _ _ (λ r e. (sending-becomes t i r _ e _, (refl, refl)));
+      refuse = λ n. host-rule t i (λ s. s ≡ at-registrar.Asked) isAsked (λ s e. rw e) not-asked _ _ (λ r e. (sending-becomes t i r _ e _, (refl, refl)));
+      lapse = host-rule t i (λ s. s ≡ at-registrar.Granted) isGranted (λ s e. rw e) not-granted _ _ (λ r e. (quietly-becomes t i r _ e, (refl, refl)));
+      close = host-rule t i MayClose mayClose may-close not-close _ _ (λ r e. (quietly-becomes t i r _ e, (refl, refl)));
     }
 
 -- ## What a refused message sends

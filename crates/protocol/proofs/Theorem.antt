@@ -25,9 +25,8 @@ use Rattle.protocol.specs.Agreement.{Fair, SenderIssued, Demand3}
 use Rattle.protocol.proofs.Tests.{none-some}
 use Rattle.protocol.proofs.Lookup.{lookup-empty, unique-empty}
 use Rattle.protocol.proofs.Invariant.{Inv, At}
-use Rattle.protocol.proofs.Preserve.{board-preserves, registrar-preserves}
+use Rattle.protocol.proofs.Preserve.{board-preserves, nowhere-preserves, registrar-preserves}
 use Rattle.protocol.proofs.Consequence.{agreement}
-use Rattle.protocol.proofs.RegistrarForms.{registrar-idle, quiet-none}
 use Rattle.protocol.proofs.RegistrarSteps.{StepOf, open-still, issue-step, refuse-step, lapse-step, close-step}
 
 -- ## The beginning
@@ -90,7 +89,7 @@ enrolment-at : (w : World) (v : Inv w) (c : Call) (k : ℕ) (f : Enrolment → E
     → Fair ((enrolmentDid w c k x f) .past)
     → (SenderIssued c (w .past) → (y : BoardEnrolment) (h : At (w .enrolments) k y) → at-board.EnrolmentStep w v k y h (f (y .enrolment)))
     → Inv (enrolmentDid w c k x f)
-enrolment-at w v c k f none h q s = registrar-preserves w c none none (w .table) v (registrar-idle w v none quiet-none)
+enrolment-at w v c k f none h q s = nowhere-preserves w c v
 enrolment-at w v c k f (some y) h q s =
     board-preserves
     w

@@ -1,12 +1,11 @@
 -- A run whose messages are known to read as certain fields, and the premises of demand 3 over those fields.
 use Prim.Native.Nat.{ℕ}
 use mathlib.Core.List.{List, [], _∷_}
-use mathlib.Core.Bool.{Bool, true, false, not, cond}
+use mathlib.Core.Bool.{Bool, true, false}
 use mathlib.Core.Option.{Option, none, some}
 use mathlib.Core.Path.{_≡_, refl, sym, _∙_, ap, subst}
 use mathlib.Core.Logic.{_⊎_, inl, inr}
 use lib.ListN.{getElem?}
-use lib.Dec.{eqb}
 use Rattle.grammar.specs.declared.Span.{Span}
 use Rattle.grammar.specs.declared.Message.{Message}
 use Rattle.message.specs.declared.Reading.{Reading}
@@ -16,7 +15,6 @@ use Rattle.protocol.specs.declared.TransactionTable.{TransactionTable}
 use Rattle.protocol.specs.declared.Enrolment.{Enrolment}
 use Rattle.protocol.specs.declared.Outgoing.{Outgoing}
 use Rattle.protocol.specs.declared.EndEntityAnswer.{EndEntityAnswer}
-use Rattle.grammar.specs.Span.{partOf}
 use Rattle.protocol.specs.Message.{Fields, optionalStatus, fieldsOf, optionalPart, isPresent}
 use Rattle.protocol.specs.Refusals.{lowestRow}
 use Rattle.protocol.specs.Registrar.{registrarFields, registrarMessage}
@@ -24,7 +22,7 @@ use Rattle.protocol.specs.EndEntityRows.{endEntityRows}
 use Rattle.protocol.specs.EndEntity.{endEntityChecked, endEntityMessage, endEntityRead}
 use Rattle.protocol.specs.Run.{End, step, World, Call, Start, ToRegistrar, registrarDid, ToEndEntity, enrolmentDid, Issue, Refuse, Lapse, Close, TimeOut, after, Event}
 use Rattle.protocol.specs.Agreement.{Carries, HasPart, Issued, IssuedMessage, IssuedReading}
-use Rattle.protocol.proofs.Tests.{eqb-eq, none-some, some-some}
+use Rattle.protocol.proofs.Tests.{none-some, some-some}
 use Rattle.protocol.proofs.ConfirmationMoves.{message-at, part-of}
 use Rattle.protocol.proofs.WitnessReadings.{ReadsAs}
 
@@ -104,10 +102,6 @@ pub record CarriesFields (f : Fields) (o : Outgoing) : Type 0 where
   pub status : o .«has_status» ≡ true → (f .status ≡ some (o .status)) ⊎ ((f .kind ≡ 24) × (f .status ≡ none) × (o .status ≡ 0))
   pub hash : f .kind ≡ 24 → f .hash .bytes ≡ o .hash .bytes
 
-absent-part : (bytes : List ℕ) (s : Span) (b : Bool) → eqb (s .start .0) 0 ≡ b → cond (not b) (some (partOf bytes s)) none ≡ none → s .start .0 ≡ 0
-absent-part bytes s true p e = eqb-eq (s .start .0) 0 p
-absent-part bytes s false p e = none-some (sym e)
-
 status-some : (b : Bool) (s v : ℕ) → optionalStatus b s ≡ some v → (b ≡ true) × (s ≡ v)
 status-some true s v e = (refl, some-some e)
 status-some false s v e = none-some e
@@ -126,11 +120,8 @@ module _ (bytes : List ℕ) (f : Fields) (r : ReadsAs bytes f) (o : Outgoing) (c
   there : (s : Span) (x : List ℕ) → optionalPart bytes s ≡ some x → HasPart bytes s x
   there s x e = part-of bytes s x (isPresent s) refl e
 
-  recip-there : optionalPart bytes (m .header .«recip_nonce») ≡ f .recipNonce → (o .«has_recip_nonce» ≡ true → HasPart bytes (m .header .«recip_nonce») (o .«recip_nonce» .bytes)) × (o .«has_recip_nonce» ≡ false → m .header .«recip_nonce» .start .0 ≡ 0)
-  recip-there e = (
-    λ h. there (m .header .«recip_nonce») (o .«recip_nonce» .bytes) (e ∙ c .recipNonce ∙ ap (λ (b : Bool). recipOf b (o .«recip_nonce» .bytes)) h),
-    λ h. absent-part bytes (m .header .«recip_nonce») (eqb (m .header .«recip_nonce» .start .0) 0) refl (e ∙ c .recipNonce ∙ ap (λ (b : Bool). recipOf b (o .«recip_nonce» .bytes)) h),
-  )
+  recip-there : optionalPart bytes (m .header .«recip_nonce») ≡ f .recipNonce → o .«has_recip_nonce» ≡ true → HasPart bytes (m .header .«recip_nonce») (o .«recip_nonce» .bytes)
+  recip-there e h = there (m .header .«recip_nonce») (o .«recip_nonce» .bytes) (e ∙ c .recipNonce ∙ ap (λ (b : Bool). recipOf b (o .«recip_nonce» .bytes)) h)
 
   status-there :
       optionalStatus (m .body .entry .«has_status») (m .body .entry .status) ≡ f .status → m .body .kind ≡ f .kind →
@@ -146,8 +137,7 @@ module _ (bytes : List ℕ) (f : Fields) (r : ReadsAs bytes f) (o : Outgoing) (c
         kind = field (λ (z : Fields). z .kind) ∙ c .kind;
         id = there (m .header .«transaction_id») (o .id .bytes) (field (λ (z : Fields). z .id) ∙ c .id);
         senderNonce = there (m .header .«sender_nonce») (o .«sender_nonce» .bytes) (field (λ (z : Fields). z .senderNonce) ∙ c .senderNonce);
-        recipNonce = recip-there (field (λ (z : Fields). z .recipNonce)) .0;
-        noRecipNonce = recip-there (field (λ (z : Fields). z .recipNonce)) .1;
+        recipNonce = recip-there (field (λ (z : Fields). z .recipNonce));
         status = λ h _. status-there (field (λ (z : Fields). z .status)) (field (λ (z : Fields). z .kind)) (c .status h);
         hash = λ k _. field (λ (z : Fields). z .hash .bytes) ∙ c .hash (sym (field (λ (z : Fields). z .kind)) ∙ k);
       }

@@ -47,12 +47,11 @@ abbrev pub HasPart : List ℕ → Span → List ℕ → Type 0
 HasPart bytes s x = (s .start .0 ≢ 0) × PartIs bytes s x
 
 pub record Carries (bytes : List ℕ) (m : Message) (o : Outgoing) : Type 0 where
-  -- "the same kind, id and nonces,"
+  -- "the same kind, id and nonces,": a recipNonce where the order has one
   pub kind : m .body .kind ≡ o .kind
   pub id : HasPart bytes (m .header .«transaction_id») (o .id .bytes)
   pub senderNonce : HasPart bytes (m .header .«sender_nonce») (o .«sender_nonce» .bytes)
   pub recipNonce : o .«has_recip_nonce» ≡ true → HasPart bytes (m .header .«recip_nonce») (o .«recip_nonce» .bytes)
-  pub noRecipNonce : o .«has_recip_nonce» ≡ false → m .header .«recip_nonce» .start .0 ≡ 0
   -- "the same status where the order has one (in a certConf none counts as 0),": a message that is no error (23) has a status
   -- only where it has one entry
   pub status : o .«has_status» ≡ true → (m .body .kind ≡ 23) ⊎ (m .body .entries ≡ 1) → ((m .body .entry .«has_status» ≡ true) × (m .body .entry .status ≡ o .status)) ⊎ ((m .body .kind ≡ 24) × (m .body .entry .«has_status» ≡ false) × (o .status ≡ 0))

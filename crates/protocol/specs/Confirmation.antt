@@ -24,8 +24,10 @@ use Rattle.protocol.specs.declared.FailureInfo.the-variants.{NoBit}
 use Rattle.protocol.specs.declared.TransactionState.the-variants.{Granted, Confirmed, Declined}
 use Rattle.protocol.specs.declared.Verdict.the-variants.{Good}
 use Rattle.protocol.specs.Refusals.{noFault}
-use Rattle.protocol.specs.Table.{lookup, slotOf, replace}
+use Rattle.protocol.specs.Table.{lookup}
 use Rattle.protocol.specs.Registrar.{registrarMessage}
+use Rattle.protocol.specs.MessageRules.{IsRefused}
+use Rattle.protocol.specs.Slots.{HoldsAt, Becomes, Sends}
 
 -- the 16 bytes of a part that is there
 abbrev pub Sixteen : List ℕ → Span → List ℕ → Type 0
@@ -98,26 +100,31 @@ acknowledgement d i n =
       failure = NoBit;
     }
 
--- the complete answer: the transaction of this id in its new state, "its senderNonce is kept; order pkiconf"
-abbrev pub movedAnswer : TransactionTable → RegistrarInput → Transaction → TransactionId → Nonce → TransactionState → RegistrarAnswer
-movedAnswer t d r i n s =
-    record {
-      outcome = outcome.Done;
-      fault = noFault;
-      slot = record { 0 = slotOf (t .transactions) i };
-      sends = true;
-      outgoing = acknowledgement d i n;
-      table = record { transactions = replace (t .transactions) i (record { id = r .id; board = r .board; kind = r .kind; taken = n; sent = r .sent; hash = r .hash; state = s }) };
-    }
+-- the complete answer: the transaction r of this id in its new state, "its senderNonce is kept; order pkiconf"
+abbrev pub MovedAnswer : TransactionTable → RegistrarInput → Transaction → TransactionId → Nonce → TransactionState → RegistrarAnswer → Type 0
+MovedAnswer t d r i n s a =
+    Becomes t i r (record { id = r .id; board = r .board; kind = r .kind; taken = n; sent = r .sent; hash = r .hash; state = s }) a
+    × Sends (acknowledgement d i n) a
 
--- "record unchanged, a new pkiconf order"
-abbrev pub repeatedAnswer : TransactionTable → RegistrarInput → TransactionId → Nonce → RegistrarAnswer
-repeatedAnswer t d i n = record { outcome = outcome.Again; fault = noFault; slot = record { 0 = slotOf (t .transactions) i }; sends = true; outgoing = acknowledgement d i n; table = t }
+-- the complete answer: "record unchanged, a new pkiconf order"; its slot is that of the transaction r of this id
+pub record RepeatedAnswer (t : TransactionTable) (d : RegistrarInput) (r : Transaction) (i : TransactionId) (n : Nonce) (a : RegistrarAnswer) : Type 0 where
+  pub again : a .outcome ≡ outcome.Again
+  pub fault : a .fault ≡ noFault
+  pub held : HoldsAt t (a .slot .0) i r
+  pub sends : Sends (acknowledgement d i n) a
+  pub table : a .table ≡ t
 
 -- "exactly when", with the complete answers; and where it neither moves one nor repeats, the table stays and it is refused
 pub record ConfirmationRule (t : TransactionTable) (d : RegistrarInput) (bytes : List ℕ) (m : Message) : Type 0 where
   pub moves : Confirms t d bytes m outcome.Done → (r : Transaction) × Moving t d bytes m r
-  pub moved : (r : Transaction) (c : Moving t d bytes m r) → (s : TransactionState) → LeadsTo m s → registrarMessage t d bytes ≡ movedAnswer t d r (c .match .id) (c .match .nonce) s
+  pub moved : (r : Transaction) (c : Moving t d bytes m r) → (s : TransactionState) → LeadsTo m s → MovedAnswer t d r (c .match .id) (c .match .nonce) s (registrarMessage t d bytes)
   pub repeats : Confirms t d bytes m outcome.Again → (r : Transaction) × Repeating t d bytes m r
-  pub repeated : (r : Transaction) (c : Repeating t d bytes m r) → registrarMessage t d bytes ≡ repeatedAnswer t d (c .match .id) (c .match .nonce)
-  pub else : (registrarMessage t d bytes .outcome ≡ outcome.Done → ⊥) → registrarMessage t d bytes .table ≡ t
+  pub repeated : (r : Transaction) (c : Repeating t d bytes m r) → RepeatedAnswer t d r (c .match .id) (c .match .nonce) (registrarMessage t d bytes)
+  pub else :
+      readingOf bytes ≡ read.Clean m
+      → m .body .kind ≡ 24
+      → ((r : Transaction) → Moving t d bytes m r → ⊥)
+      → ((r : Transaction) → Repeating t d bytes m r → ⊥)
+      → IsRefused (registrarMessage t d bytes .outcome) × (registrarMessage t d bytes .table ≡ t)
+  -- whatever the message: what is not done leaves the table
+  pub stays : (registrarMessage t d bytes .outcome ≡ outcome.Done → ⊥) → registrarMessage t d bytes .table ≡ t

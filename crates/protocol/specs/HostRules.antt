@@ -19,7 +19,8 @@ use Rattle.protocol.specs.declared.TransactionState.the-variants.{Free, 
 use Rattle.protocol.specs.Message.{responseTo}
 use Rattle.protocol.specs.Refusals.{noFault}
 use Rattle.protocol.specs.Outgoing.{silent}
-use Rattle.protocol.specs.Table.{lookup, slotOf, replace}
+use Rattle.protocol.specs.Table.{lookup}
+use Rattle.protocol.specs.Slots.{Becomes, Sends, SendsNothing}
 use Rattle.protocol.specs.Registrar.{registrarIssue, registrarRefuse, registrarLapse, registrarClose}
 
 -- refused by this number, with no bit and nothing to send, and the table as it was
@@ -27,9 +28,9 @@ abbrev pub hostRefusal : ℕ → TransactionTable → RegistrarAnswer
 hostRefusal n t = record { outcome = outcome.Refused n NoBit; fault = noFault; slot = record { 0 = 0 }; sends = false; outgoing = silent; table = t }
 
 -- a host step for the id: 30 "id not in the book", 31 "state doesn't allow it", else this
-pub record HostRule (t : TransactionTable) (i : TransactionId) (Allowed : TransactionState → Type 0) (next : Transaction → RegistrarAnswer) (a : RegistrarAnswer) : Type 0 where
+pub record HostRule (t : TransactionTable) (i : TransactionId) (Allowed : TransactionState → Type 0) (Next : Transaction → RegistrarAnswer → Type 0) (a : RegistrarAnswer) : Type 0 where
   pub unknown : lookup (t .transactions) i ≡ none → a ≡ hostRefusal 30 t
-  pub done : (r : Transaction) → lookup (t .transactions) i ≡ some r → Allowed (r .state) → a ≡ next r
+  pub done : (r : Transaction) → lookup (t .transactions) i ≡ some r → Allowed (r .state) → Next r a
   pub else : (r : Transaction) → lookup (t .transactions) i ≡ some r → (Allowed (r .state) → ⊥) → a ≡ hostRefusal 31 t
 
 -- ip, cp or kup: the id, the fresh nonce, as recipNonce the last board nonce taken, and the status
@@ -47,15 +48,13 @@ responseSent k i n a s =
       failure = NoBit;
     }
 
--- the transaction of this id becomes x, and this is sent
-abbrev pub answering : TransactionTable → TransactionId → Transaction → Outgoing → RegistrarAnswer
-answering t i x o =
-    record { outcome = outcome.Done; fault = noFault; slot = record { 0 = slotOf (t .transactions) i }; sends = true; outgoing = o; table = record { transactions = replace (t .transactions) i x } }
+-- the complete answer: the transaction r of this id becomes x, and this is sent
+abbrev pub Answering : TransactionTable → TransactionId → Transaction → Transaction → Outgoing → RegistrarAnswer → Type 0
+Answering t i r x o a = Becomes t i r x a × Sends o a
 
--- the transaction of this id becomes x, and nothing is sent
-abbrev pub quietly : TransactionTable → TransactionId → Transaction → RegistrarAnswer
-quietly t i x =
-    record { outcome = outcome.Done; fault = noFault; slot = record { 0 = slotOf (t .transactions) i }; sends = false; outgoing = silent; table = record { transactions = replace (t .transactions) i x } }
+-- the complete answer: the transaction r of this id becomes x, and nothing is sent
+abbrev pub Quietly : TransactionTable → TransactionId → Transaction → Transaction → RegistrarAnswer → Type 0
+Quietly t i r x a = Becomes t i r x a × SendsNothing a
 
 -- a transaction of all zeros
 abbrev pub nothing : Transaction
@@ -72,10 +71,10 @@ nothing =
 
 pub record HostRules (t : TransactionTable) (i : TransactionId) : Type 0 where
   -- "issue, Asked to Granted, with hash and nonce, order ip, cp or kup [...] with status 0;"
-  pub issue : (n : Nonce) (h : Hash) → HostRule t i (λ s. s ≡ Asked) (λ r. answering t i (record { id = r .id; board = r .board; kind = r .kind; taken = r .taken; sent = n; hash = h; state = Granted }) (responseSent (responseTo (r .kind)) i n (r .taken) 0)) (registrarIssue t i n h)
+  pub issue : (n : Nonce) (h : Hash) → HostRule t i (λ s. s ≡ Asked) (λ r. Answering t i r (record { id = r .id; board = r .board; kind = r .kind; taken = r .taken; sent = n; hash = h; state = Granted }) (responseSent (responseTo (r .kind)) i n (r .taken) 0)) (registrarIssue t i n h)
   -- "refuse, Asked to Refused, with nonce, the same order with status 2;"
-  pub refuse : (n : Nonce) → HostRule t i (λ s. s ≡ Asked) (λ r. answering t i (record { id = r .id; board = r .board; kind = r .kind; taken = r .taken; sent = n; hash = r .hash; state = Refused }) (responseSent (responseTo (r .kind)) i n (r .taken) 2)) (registrarRefuse t i n)
+  pub refuse : (n : Nonce) → HostRule t i (λ s. s ≡ Asked) (λ r. Answering t i r (record { id = r .id; board = r .board; kind = r .kind; taken = r .taken; sent = n; hash = r .hash; state = Refused }) (responseSent (responseTo (r .kind)) i n (r .taken) 2)) (registrarRefuse t i n)
   -- "lapse, Granted to Lapsed;"
-  pub lapse : HostRule t i (λ s. s ≡ Granted) (λ r. quietly t i (record { id = r .id; board = r .board; kind = r .kind; taken = r .taken; sent = r .sent; hash = r .hash; state = Lapsed })) (registrarLapse t i)
+  pub lapse : HostRule t i (λ s. s ≡ Granted) (λ r. Quietly t i r (record { id = r .id; board = r .board; kind = r .kind; taken = r .taken; sent = r .sent; hash = r .hash; state = Lapsed })) (registrarLapse t i)
   -- "close, from Confirmed, Declined, Refused or Lapsed to free, as in the empty book."
-  pub close : HostRule t i (λ s. (s ≡ Confirmed) ⊎ (s ≡ Declined) ⊎ (s ≡ Refused) ⊎ (s ≡ Lapsed)) (λ r. quietly t i nothing) (registrarClose t i)
+  pub close : HostRule t i (λ s. (s ≡ Confirmed) ⊎ (s ≡ Declined) ⊎ (s ≡ Refused) ⊎ (s ≡ Lapsed)) (λ r. Quietly t i r nothing) (registrarClose t i)

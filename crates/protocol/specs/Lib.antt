@@ -11,6 +11,8 @@ pub mod EndEntity
 pub mod Run
 pub mod Agreement
 pub mod Promises
+pub mod Slots
+pub mod TheTransaction
 pub mod Confirmation
 pub mod HostRules
 pub mod MessageRules

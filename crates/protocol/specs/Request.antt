@@ -1,7 +1,6 @@
 -- A request (01's opening) opens a transaction exactly when ..., and where: the lowest free slot.
 use Prim.Native.Nat.{ℕ, _≤_}
 use mathlib.Core.List.{List}
-use mathlib.Core.Bool.{false}
 use mathlib.Core.Option.{none, some}
 use mathlib.Core.Path.{_≡_}
 use mathlib.Core.Logic.{_⊎_, _≢_}
@@ -19,9 +18,10 @@ use Rattle.protocol.specs.declared.RegistrarAnswer.{RegistrarAnswer}
 use Rattle.protocol.specs.declared.Outcome.the-variants as outcome
 use Rattle.protocol.specs.declared.TransactionState.the-variants.{Free, Asked}
 use Rattle.protocol.specs.declared.Verdict.the-variants.{Good}
-use Rattle.protocol.specs.Outgoing.{silent}
+use Rattle.protocol.specs.Refusals.{noFault}
 use Rattle.protocol.specs.Table.{lookup}
 use Rattle.protocol.specs.Registrar.{registrarMessage}
+use Rattle.protocol.specs.Slots.{OnlyAt, SendsNothing}
 use Rattle.protocol.specs.Confirmation.{Sixteen}
 
 -- ir, cr, p10cr, kur
@@ -54,10 +54,10 @@ pub record Opening (t : TransactionTable) (d : RegistrarInput) (bytes : List ℕ
 -- "Opening: lowest free place becomes Asked for the board the verdict names"; nothing is sent
 pub record Opened (t : TransactionTable) (kind : ℕ) (b : Board) (i : TransactionId) (n : Nonce) (a : RegistrarAnswer) : Type 0 where
   pub done : a .outcome ≡ outcome.Done
-  pub silently : a .sends ≡ false
-  pub nothing : a .outgoing ≡ silent
-  pub asked : getElem? (a .table .transactions) (a .slot .0) ≡ some (record { id = i; board = b; kind = kind; taken = n; sent = record { bytes = replicate 16 0 }; hash = record { bytes = replicate 32 0 }; state = Asked })
-  pub wasFree : (r : Transaction) → getElem? (t .transactions) (a .slot .0) ≡ some r → r .state ≡ Free
+  pub fault : a .fault ≡ noFault
+  pub silently : SendsNothing a
+  pub asked : OnlyAt t (a .slot .0) (record { id = i; board = b; kind = kind; taken = n; sent = record { bytes = replicate 16 0 }; hash = record { bytes = replicate 32 0 }; state = Asked }) (a .table)
+  pub wasFree : (r : Transaction) × (getElem? (t .transactions) (a .slot .0) ≡ some r) × (r .state ≡ Free)
   pub lowest : (p : ℕ) (r : Transaction) → getElem? (t .transactions) p ≡ some r → r .state ≡ Free → a .slot .0 ≤ p
 
 pub record RequestRule (t : TransactionTable) (d : RegistrarInput) (bytes : List ℕ) (m : Message) : Type 0 where

@@ -34,10 +34,11 @@ pub data Call : Type 0 where
   Close : TransactionId → Call
   TimeOut : (place : ℕ) → Call
 
--- the end that a call is made at
+-- the end that a call is made at: none, where it names an enrolment that there is not
 pub data End : Type 0 where
   TheRegistrar : End
   OneBoard : Board → End
+  NoEnd : End
 
 -- an enrolment, and the board whose start began it
 pub record BoardEnrolment : Type 0 where
@@ -97,13 +98,13 @@ startDid w c b a none = boardDid w c b none (w .enrolments) a
 startDid w c b a (some i) = boardDid w c b (some i) (w .enrolments ++ (record { board = b; enrolment = a .enrolment } ∷ [])) a
 
 -- "Every other call gets the book, or the board record it names, as the last call on it returned it." Where no enrolment
--- has the place, nothing is done.
+-- has the place, nothing is done, at no end.
 abbrev pub enrolmentDid : World → Call → ℕ → Option BoardEnrolment → (Enrolment → EndEntityAnswer) → World
 enrolmentDid w c k none f =
     record {
       table = w .table;
       enrolments = w .enrolments;
-      past = record { call = c; end = TheRegistrar; sent = none; drawn = none; closed = none; table = w .table } ∷ w .past;
+      past = record { call = c; end = NoEnd; sent = none; drawn = none; closed = none; table = w .table } ∷ w .past;
     }
 enrolmentDid w c k (some x) f =
     boardDid w c (x .board) none (set (w .enrolments) k (record { board = x .board; enrolment = (f (x .enrolment)) .enrolment })) (f (x .enrolment))
