@@ -128,9 +128,6 @@ pub record Found (d : ℕ) (s : List ℕ) (b i start len k : ℕ) (whole : Check
   pub so-far : whole ≡ checkAt d (b + i) (drop i s)
 
 module _ {d : ℕ} {s : List ℕ} {b i start len k : ℕ} {whole : Check} (f : Found d s b i start len k whole) where
-  pub kind-faulty : k ≡ 2 → whole ≡ Fault (record { 0 = b + i }) (ruleOf d (headOf (drop i s)))
-  kind-faulty e = at-faulty d s b i (sym (f .is)) (f .here) (f .so-far) (simp (eq-eqb k 2 e))
-
   module _ (sound : k ≡ 2 → ⊥) where
     as-primitive : k ≡ 0 → ofKind d (drop i s) start len k ≡ Primitive (start + len)
     as-primitive e = simp (ne-eqb k 2 sound, eq-eqb k 0 e)

@@ -106,7 +106,7 @@ one-encoding s t p q e f = one-form s p e .0 ∙ sym (one-form t q f .0)
 
 -- each form is read where its bytes stand
 module _ (s : List ℕ) (ok : tagOk (byte s 0) ≡ true) where
-  short-read : byte s 1 < 128 → 2 + byte s 1 ≤ length s → headOf s ≡ Whole (byte s 0) 2 (byte s 1)
+  pub short-read : byte s 1 < 128 → 2 + byte s 1 ≤ length s → headOf s ≡ Whole (byte s 0) 2 (byte s 1)
   unfolding headOf lengthOf inside
   short-read h fits =
       simp (ne-eqb (length s) 0 (λ z. omega arith), ok, le-ltb (length s) 2 (omega arith), lt-ltb (byte s 1) 128 h, le-leb (2 + byte s 1) (length s) fits)

@@ -196,7 +196,7 @@ fn low(x: usize) -> u8
     x as u8
 }
 
-// Whether all of `s` is whole elements, one after another by itself, since `s` may be longer than one.
+// Whether all of `s` is whole elements, where it may be longer than one can be: each by itself.
 fn one_by_one(s: &[u8]) -> Check
     ensures { λ r. ⌜ r ≡ check (now (s .entry)) ⌝ }
 {

@@ -18,7 +18,8 @@ pub(crate) fn wide(x: u8) -> usize
     x as usize
 }
 
-fn tag_ok(t: u8) -> bool
+// Whether a tag may stand: one byte, and not the universal tag 0.
+pub fn tag_ok(t: u8) -> bool
     ensures { λ r. ⌜ r ≡ tagOk t ⌝ }
 {
     if t % 32 == 31 {

@@ -16,10 +16,16 @@ use crate::cursor::small_integer;
 use crate::cursor::tag_at;
 use crate::cursor::value;
 use der::Offset;
+use der::head::tag_ok;
 ghost use mathlib.Core.Path.{_≡_};
-ghost use Rattle.grammar.specs.Cursor.{needOf};
+ghost use mathlib.Core.Logic.{_⊎_};
+ghost use mathlib.Core.Bool.{_&&_};
+ghost use Prim.Native.Nat.{_+_, _<_, _≤_};
+ghost use lib.Dec.{eqb};
+ghost use Rattle.der.specs.Head.{tagOk};
+ghost use Rattle.grammar.specs.Cursor.{needOf, doneOf, enterOf};
 ghost use Rattle.grammar.specs.Span.{spanFrom};
-ghost use Rattle.grammar.specs.Parts.{foundSpan, wholeSpan, outerSpan, foundOf, typedOf, allBy, sequenceBy, sequenceOf, fieldOf, typedField, anyField, sequenceField, maybeText, lastBitSet, failInfoOf, statusOf, maybeStatus};
+ghost use Rattle.grammar.specs.Parts.{foundSpan, wholeSpan, outerSpan, foundOf, typedOf, allBy, sequenceBy, sequenceOf, fieldOf, pastField, typedField, anyField, sequenceField, maybeText, lastBitSet, failInfoOf, statusOf, maybeStatus};
 
 // What a SEQUENCE OF holds.
 pub enum Each {
@@ -144,15 +150,90 @@ fn sequence_of(m: &[u8], c: Cursor, what: Each) -> Cursor
     }
 }
 
+// A byte as a number to count with.
+fn wide(x: u8) -> usize
+    ensures { λ r. ⌜ (r ≡ x) × (r < 256) ⌝ }
+{
+    x as usize
+}
+
+// [n] around one element with the tag `inner`, both with a short length and nothing after the one inside: where they end. 0 where it is
+// otherwise, and the two are to be read one after the other.
+fn short_field(m: &[u8], c: Cursor, tag: u8, inner: u8) -> usize
+    ensures { λ r. ⌜ (r ≡ 0) ⊎ ((c .at + 4 ≤ r) × (fieldOf (now (m .entry)) tag inner c ≡ pastField c r)) ⌝ }
+{
+    let at = c.at;
+    let end = c.end;
+    if m.len() < end {
+        return 0;
+    }
+    if end <= at {
+        return 0;
+    }
+    let left = end - at;
+    if left < 4 {
+        return 0;
+    }
+    let len = wide(m[at + 1]);
+    if 127 < len {
+        return 0;
+    }
+    if left < len + 2 {
+        return 0;
+    }
+    if wide(m[at + 3]) + 2 != len {
+        return 0;
+    }
+    if m[at + 2] != inner {
+        return 0;
+    }
+    if tags_ok(m[at], tag, inner, c.rule) {
+        at + 2 + len
+    } else {
+        0
+    }
+}
+
+// The tag is the one asked, both may stand, and no rule is broken.
+fn tags_ok(first: u8, tag: u8, inner: u8, rule: usize) -> bool
+    ensures { λ r. ⌜ r ≡ (eqb rule 0 && (eqb first tag && (tagOk tag && tagOk inner))) ⌝ }
+{
+    if rule == 0 {
+        if first == tag {
+            if tag_ok(tag) {
+                return tag_ok(inner);
+            }
+        }
+    }
+    false
+}
+
+// The two one after the other.
+fn long_field(m: &[u8], c: Cursor, tag: u8, inner: u8) -> Cursor
+    ensures { λ r. ⌜ r ≡ foundOf (needOf (now (m .entry)) tag c) (doneOf (needOf (now (m .entry)) inner (enterOf (needOf (now (m .entry)) tag c)))) ⌝ }
+{
+    let o = need(m, c, tag);
+    let i = need(m, enter(o), inner);
+    found(o, done(i))
+}
+
 // [n] around one element with the tag `inner`: the span is what that one holds.
 pub(crate) fn field(m: &[u8], c: Cursor, tag: u8, inner: u8) -> Cursor
     ensures { λ r. ⌜ r ≡ fieldOf (now (m .entry)) tag inner c ⌝ }
 {
     let t = tag_at(m, c);
     if t == tag {
-        let o = need(m, c, tag);
-        let i = need(m, enter(o), inner);
-        found(o, done(i))
+        let to = short_field(m, c, tag, inner);
+        if to == 0 {
+            return long_field(m, c, tag, inner);
+        }
+        Cursor {
+            at: to,
+            end: c.end,
+            from: c.at + 4,
+            to,
+            rule: 0,
+        }
     } else {
         none(c)
     }
