@@ -87,7 +87,7 @@ open-slot (inr x) d = x
 
 module _ (s : List ℕ) (e : length s ≡ tableBytes) (accept : ℕ) (confirm : List ℕ) where
   abbrev l₁ : LentWorld
-  l₁ = lentStep (lentBeginning s) (EndEntityStart board (zeros enrolmentBytes) 0 (replicate 16 17) (replicate 16 1) (zeros endEntityAnswerBytes))
+  l₁ = lentStep (lentBeginning s) (EndEntityStart board (zeros enrolmentBytes) 0 (replicate 16 0x11) (replicate 16 1) (zeros endEntityAnswerBytes))
 
   started : length (l₁ .enrolments) ≡ 1
   unfolding lentStep startCrossing endEntityStart unpack16
@@ -97,10 +97,10 @@ module _ (s : List ℕ) (e : length s ≡ tableBytes) (accept : ℕ) (confirm : 
   l₂ = lentStep l₁ (AtRegistrar (RegistrarMessage irBytes 1 5 (replicate 16 2)) (zeros registrarAnswerBytes))
 
   abbrev l₃ : LentWorld
-  l₃ = lentStep l₂ (AtRegistrar (RegistrarIssue (replicate 16 17) (replicate 16 3) (replicate 32 171)) (zeros registrarAnswerBytes))
+  l₃ = lentStep l₂ (AtRegistrar (RegistrarIssue (replicate 16 0x11) (replicate 16 3) (replicate 32 0xAB)) (zeros registrarAnswerBytes))
 
   abbrev l₄ : LentWorld
-  l₄ = lentStep l₃ (AtEndEntity 0 (EndEntityMessage ipBytes 1 accept (replicate 32 171) (replicate 16 4)) (zeros endEntityAnswerBytes))
+  l₄ = lentStep l₃ (AtEndEntity 0 (EndEntityMessage ipBytes 1 accept (replicate 32 0xAB) (replicate 16 4)) (zeros endEntityAnswerBytes))
 
   abbrev l₅ : LentWorld
   l₅ = lentStep l₄ (AtRegistrar (RegistrarMessage confirm 1 5 (replicate 16 5)) (zeros registrarAnswerBytes))
@@ -114,7 +114,7 @@ module _ (s : List ℕ) (e : length s ≡ tableBytes) (accept : ℕ) (confirm : 
         arith,
         started,
         stays l₁ (AtRegistrar (RegistrarMessage irBytes 1 5 (replicate 16 2)) (zeros registrarAnswerBytes)),
-        stays l₂ (AtRegistrar (RegistrarIssue (replicate 16 17) (replicate 16 3) (replicate 32 171)) (zeros registrarAnswerBytes)),
+        stays l₂ (AtRegistrar (RegistrarIssue (replicate 16 0x11) (replicate 16 3) (replicate 32 0xAB)) (zeros registrarAnswerBytes)),
       )
 
   there₅ : 0 < length (l₅ .enrolments)
@@ -122,13 +122,13 @@ module _ (s : List ℕ) (e : length s ≡ tableBytes) (accept : ℕ) (confirm : 
       omega (
         arith,
         there₃,
-        stays l₃ (AtEndEntity 0 (EndEntityMessage ipBytes 1 accept (replicate 32 171) (replicate 16 4)) (zeros endEntityAnswerBytes)),
+        stays l₃ (AtEndEntity 0 (EndEntityMessage ipBytes 1 accept (replicate 32 0xAB) (replicate 16 4)) (zeros endEntityAnswerBytes)),
         stays l₄ (AtRegistrar (RegistrarMessage confirm 1 5 (replicate 16 5)) (zeros registrarAnswerBytes)),
       )
 
   there₆ : 0 < length (l₆ .enrolments)
   unfolding lentAfter
-  there₆ = omega (arith, there₅, stays l₅ (AtEndEntity 0 (EndEntityMessage pkiConfBytes 1 accept (replicate 32 171) (replicate 16 6)) (zeros endEntityAnswerBytes)))
+  there₆ = omega (arith, there₅, stays l₅ (AtEndEntity 0 (EndEntityMessage pkiConfBytes 1 accept (replicate 32 0xAB) (replicate 16 6)) (zeros endEntityAnswerBytes)))
 
   fit : AllFit (lentBeginning s) (lentEnrols accept confirm)
   fit = (

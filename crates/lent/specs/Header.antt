@@ -17,7 +17,8 @@ use Rattle.protocol.specs.Agreement.{PartIs, HasPart, Fair}
 use Rattle.packed.specs.Table.{tableBytes}
 use Rattle.lent.specs.Calls.{RegistrarCall, RegistrarMessage, RegistrarIssue, RegistrarRefuse, RegistrarLapse, RegistrarClose, EndEntityCall, EndEntityMessage, EndEntityTimeOut, closing}
 use Rattle.lent.specs.Lent.{LentCall, AtRegistrar, AtEndEntity, EndEntityStart, LentEnrolment, LentEvent, LentWorld, isMade, lentAfter, lentBeginning, worldOf}
-use Rattle.lent.specs.Places.{transactionId, transactionBoard, transactionSent, transactionHash, transactionState, enrolmentId, enrolmentHash, enrolmentState, outgoingKind, outgoingId, outgoingSenderNonce, outgoingHasRecipNonce, outgoingRecipNonce, outgoingHasStatus, outgoingStatus, outgoingHash, outgoingIn, sendsIn}
+use Rattle.lent.specs.Places.{transactionId, transactionBoard, transactionSent, transactionHash, transactionState, enrolmentId, enrolmentHash, enrolmentState}
+use Rattle.lent.specs.Places.{outgoingKind, outgoingId, outgoingSenderNonce, outgoingHasRecipNonce, outgoingRecipNonce, outgoingHasStatus, outgoingStatus, outgoingHash, outgoingIn, sendsIn}
 
 -- ## What was done
 

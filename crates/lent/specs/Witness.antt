@@ -18,12 +18,12 @@ use Rattle.lent.specs.Header.{FairBytes, HeaderAgreement, InSlot}
 -- or not
 abbrev pub lentEnrols : (accept : ℕ) → (certConfBytes : List ℕ) → List LentCall
 lentEnrols accept certConfBytes =
-    EndEntityStart board (zeros enrolmentBytes) 0 (replicate 16 17) (replicate 16 1) (zeros endEntityAnswerBytes)
+    EndEntityStart board (zeros enrolmentBytes) 0 (replicate 16 0x11) (replicate 16 1) (zeros endEntityAnswerBytes)
     ∷ AtRegistrar (RegistrarMessage irBytes 1 5 (replicate 16 2)) (zeros registrarAnswerBytes)
-    ∷ AtRegistrar (RegistrarIssue (replicate 16 17) (replicate 16 3) (replicate 32 171)) (zeros registrarAnswerBytes)
-    ∷ AtEndEntity 0 (EndEntityMessage ipBytes 1 accept (replicate 32 171) (replicate 16 4)) (zeros endEntityAnswerBytes)
+    ∷ AtRegistrar (RegistrarIssue (replicate 16 0x11) (replicate 16 3) (replicate 32 0xAB)) (zeros registrarAnswerBytes)
+    ∷ AtEndEntity 0 (EndEntityMessage ipBytes 1 accept (replicate 32 0xAB) (replicate 16 4)) (zeros endEntityAnswerBytes)
     ∷ AtRegistrar (RegistrarMessage certConfBytes 1 5 (replicate 16 5)) (zeros registrarAnswerBytes)
-    ∷ AtEndEntity 0 (EndEntityMessage pkiConfBytes 1 accept (replicate 32 171) (replicate 16 6)) (zeros endEntityAnswerBytes)
+    ∷ AtEndEntity 0 (EndEntityMessage pkiConfBytes 1 accept (replicate 32 0xAB) (replicate 16 6)) (zeros endEntityAnswerBytes)
     ∷ []
 
 -- from these bytes of an empty table the premises hold, the enrolment says this state, and a slot of the table says it of the transaction

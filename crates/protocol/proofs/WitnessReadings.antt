@@ -33,7 +33,7 @@ fieldsWith k n a e s h c =
     record {
       kind = k;
       version = 2;
-      id = some (replicate 16 17);
+      id = some (replicate 16 0x11);
       senderNonce = some (replicate 16 n);
       recipNonce = a;
       protected = true;
@@ -52,10 +52,10 @@ abbrev pub ipFields : Fields
 ipFields = fieldsWith 1 3 (some (replicate 16 1)) 1 (some 0) [] true
 
 abbrev pub acceptFields : Fields
-acceptFields = fieldsWith 24 4 (some (replicate 16 3)) 1 none (replicate 32 171) false
+acceptFields = fieldsWith 24 4 (some (replicate 16 3)) 1 none (replicate 32 0xAB) false
 
 abbrev pub declineFields : Fields
-declineFields = fieldsWith 24 4 (some (replicate 16 3)) 1 (some 2) (replicate 32 171) false
+declineFields = fieldsWith 24 4 (some (replicate 16 3)) 1 (some 2) (replicate 32 0xAB) false
 
 abbrev pub pkiConfFields : Fields
 pkiConfFields = fieldsWith 19 5 (some (replicate 16 4)) 0 none [] false

@@ -22,49 +22,72 @@ abbrev pub board : Board
 board = record { 0 = 5 }
 
 abbrev pub id : TransactionId
-id = record { bytes = replicate 16 17 }
+id = record { bytes = replicate 16 0x11 }
 
 abbrev pub nonce : ℕ → Nonce
 nonce n = record { bytes = replicate 16 n }
 
 abbrev pub hash : Hash
-hash = record { bytes = replicate 32 171 }
+hash = record { bytes = replicate 32 0xAB }
 
 -- ## Messages, in bytes
 
 -- the header of 01's W up to its transactionID, and the senderNonce
 abbrev head : ℕ → List ℕ
 head n =
-    2 ∷ 1 ∷ 2 ∷ 164 ∷ 2 ∷ 48 ∷ 0 ∷ 164 ∷ 2 ∷ 48 ∷ 0 ∷ 161 ∷ 13 ∷ 48 ∷ 11 ∷ 6 ∷ 9 ∷ 42 ∷ 134 ∷ 72 ∷ 134 ∷ 246 ∷ 125 ∷ 7 ∷ 66 ∷ 13 ∷ 164 ∷ 18 ∷ 4 ∷ 16
-    ∷ (replicate 16 17 ++ (165 ∷ 18 ∷ 4 ∷ 16 ∷ replicate 16 n))
+    0x02 ∷ 0x01 ∷ 0x02
+    ∷ 0xA4 ∷ 0x02 ∷ 0x30 ∷ 0x00
+    ∷ 0xA4 ∷ 0x02 ∷ 0x30 ∷ 0x00
+    ∷ 0xA1 ∷ 0x0D ∷ 0x30 ∷ 0x0B ∷ 0x06 ∷ 0x09 ∷ 0x2A ∷ 0x86 ∷ 0x48 ∷ 0x86 ∷ 0xF6 ∷ 0x7D ∷ 0x07 ∷ 0x42 ∷ 0x0D
+    ∷ 0xA4 ∷ 0x12 ∷ 0x04 ∷ 0x10
+    ∷ (replicate 16 0x11 ++ (0xA5 ∷ 0x12 ∷ 0x04 ∷ 0x10 ∷ replicate 16 n))
 
 -- with the recipNonce a
 abbrev answerHead : ℕ → ℕ → List ℕ
-answerHead n a = 48 ∷ 86 ∷ (head n ++ (166 ∷ 18 ∷ 4 ∷ 16 ∷ replicate 16 a))
+answerHead n a = 0x30 ∷ 0x56 ∷ (head n ++ (0xA6 ∷ 0x12 ∷ 0x04 ∷ 0x10 ∷ replicate 16 a))
 
 abbrev protection : List ℕ
-protection = 160 ∷ 4 ∷ 3 ∷ 2 ∷ 0 ∷ 90 ∷ []
+protection = 0xA0 ∷ 0x04 ∷ 0x03 ∷ 0x02 ∷ 0x00 ∷ 0x5A ∷ []
 
 -- ir with one request of number 0
 abbrev pub irBytes : List ℕ
-irBytes = 48 ∷ 85 ∷ 48 ∷ 66 ∷ (head 1 ++ (160 ∷ 9 ∷ 48 ∷ 7 ∷ 48 ∷ 5 ∷ 48 ∷ 3 ∷ 2 ∷ 1 ∷ 0 ∷ protection))
+irBytes =
+    0x30 ∷ 0x55
+    ∷ 0x30 ∷ 0x42
+    ∷ (head 1 ++ (0xA0 ∷ 0x09 ∷ 0x30 ∷ 0x07 ∷ 0x30 ∷ 0x05 ∷ 0x30 ∷ 0x03 ∷ 0x02 ∷ 0x01 ∷ 0x00 ∷ protection))
 
--- ip with one response: number 0, status 0, and a certificate
+-- one response: number 0, status 0, and a certificate
+abbrev responseBody : List ℕ → List ℕ
+responseBody s =
+    0xA1 ∷ 0x14 ∷ 0x30 ∷ 0x12 ∷ 0x30 ∷ 0x10 ∷ 0x30 ∷ 0x0E
+    ∷ 0x02 ∷ 0x01 ∷ 0x00
+    ∷ 0x30 ∷ 0x03 ∷ 0x02 ∷ 0x01 ∷ 0x00
+    ∷ 0x30 ∷ 0x04 ∷ 0xA0 ∷ 0x02 ∷ 0x30 ∷ 0x00
+    ∷ s
+
+-- ip
 abbrev pub ipBytes : List ℕ
-ipBytes =
-    48 ∷ 116 ∷ (answerHead 3 1 ++ (161 ∷ 20 ∷ 48 ∷ 18 ∷ 48 ∷ 16 ∷ 48 ∷ 14 ∷ 2 ∷ 1 ∷ 0 ∷ 48 ∷ 3 ∷ 2 ∷ 1 ∷ 0 ∷ 48 ∷ 4 ∷ 160 ∷ 2 ∷ 48 ∷ 0 ∷ protection))
+ipBytes = 0x30 ∷ 0x74 ∷ (answerHead 3 1 ++ responseBody protection)
 
 -- certConf with one entry: the hash and number 0, and no status info
 abbrev pub acceptBytes : List ℕ
-acceptBytes = 48 ∷ 129 ∷ 137 ∷ (answerHead 4 3 ++ (184 ∷ 41 ∷ 48 ∷ 39 ∷ 48 ∷ 37 ∷ 4 ∷ 32 ∷ (replicate 32 171 ++ (2 ∷ 1 ∷ 0 ∷ protection))))
+acceptBytes =
+    0x30 ∷ 0x81 ∷ 0x89
+    ∷ (answerHead 4 3 ++ (0xB8 ∷ 0x29 ∷ 0x30 ∷ 0x27 ∷ 0x30 ∷ 0x25 ∷ 0x04 ∷ 0x20 ∷ (replicate 32 0xAB ++ (0x02 ∷ 0x01 ∷ 0x00 ∷ protection))))
+
+-- status info: status 2
+abbrev rejection : List ℕ → List ℕ
+rejection s = 0x30 ∷ 0x03 ∷ 0x02 ∷ 0x01 ∷ 0x02 ∷ s
 
 -- the same with status 2
 abbrev pub declineBytes : List ℕ
-declineBytes = 48 ∷ 129 ∷ 142 ∷ (answerHead 4 3 ++ (184 ∷ 46 ∷ 48 ∷ 44 ∷ 48 ∷ 42 ∷ 4 ∷ 32 ∷ (replicate 32 171 ++ (2 ∷ 1 ∷ 0 ∷ 48 ∷ 3 ∷ 2 ∷ 1 ∷ 2 ∷ protection))))
+declineBytes =
+    0x30 ∷ 0x81 ∷ 0x8E
+    ∷ (answerHead 4 3 ++ (0xB8 ∷ 0x2E ∷ 0x30 ∷ 0x2C ∷ 0x30 ∷ 0x2A ∷ 0x04 ∷ 0x20 ∷ (replicate 32 0xAB ++ (0x02 ∷ 0x01 ∷ 0x00 ∷ rejection protection))))
 
 -- pkiconf
 abbrev pub pkiConfBytes : List ℕ
-pkiConfBytes = 48 ∷ 98 ∷ (answerHead 5 4 ++ (179 ∷ 2 ∷ 5 ∷ 0 ∷ protection))
+pkiConfBytes = 0x30 ∷ 0x62 ∷ (answerHead 5 4 ++ (0xB3 ∷ 0x02 ∷ 0x05 ∷ 0x00 ∷ protection))
 
 -- ## The calls
 

@@ -2,7 +2,7 @@
 use Prim.Native.Nat.{ℕ}
 use mathlib.Core.List.{List, [], _∷_}
 use mathlib.Core.Bool.{Bool, true, false, cond}
-use mathlib.Core.Option.{Option, none, some}
+use mathlib.Core.Option.{Option, none, some, Option·getD}
 use mathlib.Core.Path.{_≡_}
 use lib.ListN.{getD, set}
 use lib.Dec.{leb}
@@ -15,16 +15,17 @@ use Rattle.protocol.specs.declared.Verdict.{Verdict}
 use Rattle.protocol.specs.declared.TransactionState.{TransactionState}
 use Rattle.protocol.specs.declared.Transaction.{Transaction}
 use Rattle.protocol.specs.declared.TransactionTable.{TransactionTable}
+use Rattle.protocol.specs.declared.RegistrarInput.{RegistrarInput}
 use Rattle.protocol.specs.declared.RegistrarAnswer.{RegistrarAnswer}
 use Rattle.protocol.specs.declared.Outcome.the-variants as outcome
 use Rattle.protocol.specs.Bytes.{asId, asNonce}
 use Rattle.protocol.specs.Message.{Fields, fieldsOf, responseTo}
 use Rattle.protocol.specs.Outgoing.{silent, errorOut, pkiConfOut, responseOut}
-use Rattle.protocol.specs.Table.{freeTransaction}
+use Rattle.protocol.specs.Table.{freeTransaction, lookup}
 use Rattle.protocol.specs.States.{isGranted, settledState}
-use Rattle.protocol.specs.Refusals.{Row, row, bitOf, noFault}
+use Rattle.protocol.specs.Refusals.{Row, row, lowestRow, bitOf, noFault}
 use Rattle.protocol.specs.RegistrarRows.{otherKind, opensWithNonce, opensKnown, opensFull, confirmsUnknown, confirmsForAnother, confirmsOtherNonce, notOneEntry, otherRequest, hashAlgTooEarly, otherStatus, otherHash, notTaken}
-use Rattle.protocol.specs.Registrar.{doneSending, settled, responded}
+use Rattle.protocol.specs.Registrar.{doneSending, settled, responded, registrarChecked}
 
 -- ## Slots
 
@@ -86,6 +87,12 @@ confirmation t p r n i a s =
 -- a response of this status for the transaction r in the slot p, which then is in the state s
 abbrev pub responseAnswer : TransactionTable → (p : ℕ) → (r : Transaction) → TransactionId → TransactionState → (status : ℕ) → Nonce → Hash → RegistrarAnswer
 responseAnswer t p r i s status n h = doneSending p (set (t .transactions) p (responded r s n h)) (responseOut (responseTo (r .kind)) i n (r .taken) status)
+
+-- a message that the rows 3 to 7 do not refuse, by its id i: f is what the table has for it
+abbrev pub headed : TransactionTable → RegistrarInput → (i : TransactionId) → Fields → RegistrarAnswer
+headed t x i m =
+    let f : Option Transaction = lookup (t .transactions) i in
+    registrarChecked (lowestRow (laterRows (t .transactions) f (x .verdict) (Option·getD f freeTransaction) m)) f t x m
 
 -- the id and the nonce that the code copies out of a message are the message's own
 pub record Copied (bytes : List ℕ) (m : Message) (i : TransactionId) (a : Nonce) : Type 0 where

@@ -1,4 +1,7 @@
 // Which states take what: a function for each table of the definitions.
+//
+// A must-fail edit names the text of one line, which has to stand in its file just once. So where an edit turns a line of a
+// table, the table's two values have names of their own.
 use protocol::TransactionState;
 ghost use mathlib.Core.Path.{_≡_};
 ghost use Rattle.protocol.specs.Table.{isFree};
@@ -125,15 +128,13 @@ pub(crate) fn may_close(s: TransactionState) -> bool
 pub(crate) fn is_confirmed(s: TransactionState) -> bool
     ensures { λ r. ⌜ r ≡ isConfirmed s ⌝ }
 {
-    let unconfirmed = false;
-    let confirmed = true;
     match s {
-        TransactionState::Free => unconfirmed,
-        TransactionState::Asked => unconfirmed,
-        TransactionState::Granted => unconfirmed,
-        TransactionState::Confirmed => confirmed,
-        TransactionState::Declined => unconfirmed,
-        TransactionState::Refused => unconfirmed,
-        TransactionState::Lapsed => unconfirmed,
+        TransactionState::Free => false,
+        TransactionState::Asked => false,
+        TransactionState::Granted => false,
+        TransactionState::Confirmed => true,
+        TransactionState::Declined => false,
+        TransactionState::Refused => false,
+        TransactionState::Lapsed => false,
     }
 }

@@ -35,13 +35,12 @@ use protocol::TransactionState;
 use protocol::TransactionTable;
 use protocol::Verdict;
 ghost use mathlib.Core.Path.{_≡_};
-ghost use mathlib.Core.Option.{Option·getD};
 ghost use Rattle.protocol.specs.Bytes.{noNonce, noHash};
 ghost use Rattle.protocol.specs.Message.{fieldsOf};
-ghost use Rattle.protocol.specs.Table.{freeSlot, put, lookup, freeTransaction};
-ghost use Rattle.protocol.specs.Refusals.{lowestRow};
-ghost use Rattle.protocol.specs.Registrar.{boardNamed, doneQuietly, registrarChecked, registrarFields, registrarMessage};
-ghost use Rattle.registrar.specs.Steps.{laterRows, confirmation, Copied};
+ghost use Rattle.protocol.specs.Table.{freeSlot, put};
+ghost use Rattle.protocol.specs.Registrar.{boardNamed, doneQuietly, registrarFields, registrarMessage};
+ghost use Rattle.registrar.specs.Steps.{confirmation, Copied};
+ghost use Rattle.registrar.specs.Steps.{headed as Steps·headed};
 
 fn board_named(verdict: Verdict) -> Board
     ensures { λ r. ⌜ r ≡ boardNamed verdict ⌝ }
@@ -106,7 +105,7 @@ fn headed(
     answered: Nonce,
 ) -> RegistrarAnswer
     requires { ⌜ Copied (now bytes) m id answered ⌝ }
-    ensures { λ r. ⌜ r ≡ registrarChecked (lowestRow (laterRows (table .transactions) (lookup (table .transactions) id) (input .verdict) (Option·getD (lookup (table .transactions) id) freeTransaction) (fieldsOf (now (bytes .entry)) m))) (lookup (table .transactions) id) table input (fieldsOf (now (bytes .entry)) m) ⌝ }
+    ensures { λ r. ⌜ r ≡ Steps·headed table input id (fieldsOf (now (bytes .entry)) m) ⌝ }
 {
     let body = m.body;
     let verdict = input.verdict;
