@@ -1,5 +1,5 @@
 -- Laws of a run of elements: what stands at the loop's place, and that a fault lies inside the bytes that were checked.
-use Prim.Native.Nat.{ℕ, zero, suc, _+_, _-_, _*_, _<_, _≤_}
+use Prim.Native.Nat.{ℕ, zero, suc, _+_, _-_, _<_, _≤_}
 use mathlib.Core.Path.{_≡_, refl, sym, _∙_, ap, subst}
 use mathlib.Core.List.{List, [], _∷_}
 use mathlib.Core.Bool.{Bool, true, false, not, _&&_}
@@ -20,7 +20,7 @@ use Rattle.der.specs.declared.element.Check.the-variants.{Sound, Fault}
 use Rattle.der.specs.Head.{headOf}
 use Rattle.der.specs.Content.{contentOk}
 use Rattle.der.specs.Element.{constructed, formOk, judge, elementOf, sizeOf, andThen, withContent, eachElement, contentAt, checkAt}
-use Rattle.der.specs.Code.{ruleOf, faults, answerOf}
+use Rattle.der.specs.Code.{faults, answerOf}
 use Rattle.der.proofs.KindLaws.{ofKind}
 use Rattle.der.proofs.HeadLaws.{HeadIn, head-in, cond-case, cond-both}
 

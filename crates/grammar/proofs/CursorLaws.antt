@@ -1,15 +1,14 @@
--- Laws of the cursor's verbs: where an element ends, and how numbers are shifted in.
-use Prim.Native.Nat.{ℕ, zero, suc, _+_, _-_, _*_, _/_, _%_, _^_, _<_, _≤_}
-use mathlib.Core.Path.{_≡_, refl, sym, _∙_, ap, subst}
-use mathlib.Core.List.{List, [], _∷_}
-use mathlib.Core.Bool.{Bool, true, false, cond, _&&_, _||_, true≢false}
-use native.Mathlib.Nat.{le-refl, lt-irrefl, add-zero}
-use native.Mathlib.Numerals.{add-one}
+-- Laws of the cursor's verbs: where an element ends, and how far a cursor moves on.
+use Prim.Native.Nat.{ℕ, zero, suc, _+_, _-_, _*_, _/_, _%_, _<_, _≤_}
+use mathlib.Core.Path.{_≡_, refl, sym, _∙_, ap}
+use mathlib.Core.List.{List}
+use mathlib.Core.Bool.{Bool, true, false, cond, _||_, true≢false}
+use native.Mathlib.Nat.{le-refl, add-zero}
 use native.Mathlib.Omega.{arith}
 use borrow.Author.Tests.{ltb-true, ltb-false, leb-false, eq-eqb, ne-eqb}
-use lib.ListN.{length, getD, take, drop, drop-of-length-le}
-use lib.Seq.{drop-cons, getD-take, getD-drop}
-use lib.Dec.{ltb, leb, eqb, lit<}
+use lib.ListN.{length, getD, take, drop}
+use lib.Seq.{getD-take, getD-drop}
+use lib.Dec.{ltb, leb, eqb}
 use Rattle.der.specs.Head.{byte, headOf}
 use Rattle.der.specs.Code.{packedOf}
 use Rattle.der.specs.declared.head.Head.{Head}

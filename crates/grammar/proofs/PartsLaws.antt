@@ -1,23 +1,22 @@
--- Laws of the shared grammar rules: each member of a SEQUENCE OF moves the cursor on.
+-- Laws of the shared grammar rules: each member of a SEQUENCE OF moves the cursor on, and a field with short lengths ends where they say.
 use Prim.Native.Nat.{ℕ, _+_, _-_, _<_, _≤_}
-use mathlib.Core.Path.{_≡_, refl, sym, _∙_, ap}
-use mathlib.Core.Bool.{true, cond, _||_, _&&_}
+use mathlib.Core.Path.{_≡_, refl, _∙_, ap}
+use mathlib.Core.Bool.{true, cond, _&&_}
 use mathlib.Core.List.{List}
 use native.Mathlib.Nat.{add-zero, add-assoc}
 use native.Mathlib.Omega.{arith}
 use borrow.Author.Tests.{eq-eqb, eqb-true, lt-ltb, le-ltb, le-leb, lt-leb}
 use lib.ListN.{length, take, drop, length-drop}
 use lib.Seq.{getD-take, getD-drop, length-take-le}
-use lib.Dec.{ltb, leb, eqb}
-use Rattle.der.specs.Head.{byte, tagOk, headOf}
-use Rattle.der.specs.declared.head.Head.{Head}
+use lib.Dec.{eqb}
+use Rattle.der.specs.Head.{byte, tagOk}
 use Rattle.der.specs.declared.head.Head.the-variants.{Whole}
 use Rattle.der.proofs.Auto.{and-left, and-right}
 use Rattle.der.proofs.OneForm.{short-read}
 use Rattle.grammar.specs.declared.cursor.Cursor.{Cursor}
 use Rattle.grammar.specs.declared.parts.Each.{Each}
 use Rattle.grammar.specs.declared.parts.Each.the-variants.{Text, Certificate, Info}
-use Rattle.grammar.specs.Cursor.{isOk, headIn, tagAt, ifTag, pastOf, needOf, noneOf, doneOf, enterOf}
+use Rattle.grammar.specs.Cursor.{headIn, tagAt, pastOf, needOf, noneOf, doneOf, enterOf}
 use Rattle.grammar.specs.Parts.{typedOf, oneOf, foundOf, fieldOf, pastField}
 use Rattle.grammar.proofs.CursorLaws.{Moved, moved-need, moved-leave}
 

@@ -1,8 +1,8 @@
 -- A cursor over a message and the verbs that every grammar rule is made of. A fault (rule 5) sticks: each verb hands a faulty
 -- cursor on, and it goes on standing where the fault is.
-use Prim.Native.Nat.{ℕ, zero, suc, _+_, _-_, _*_, _%_}
-use mathlib.Core.List.{List, [], _∷_}
-use mathlib.Core.Bool.{Bool, true, false, cond, _&&_, _||_}
+use Prim.Native.Nat.{ℕ, zero, suc, _+_, _-_}
+use mathlib.Core.List.{List, []}
+use mathlib.Core.Bool.{Bool, cond, _&&_, _||_}
 use lib.ListN.{length, getD, take, drop}
 use lib.Dec.{ltb, leb, eqb}
 use Rattle.der.specs.Head.{byte, headOf}

@@ -2,12 +2,10 @@
 -- call.
 use Prim.Native.Nat.{ℕ, _+_, _-_, _*_, _^_, _<_, _≤_}
 use mathlib.Core.List.{List}
-use mathlib.Core.Bool.{_||_, true}
 use mathlib.Core.Path.{_≡_, _∙_, refl, sym, ap}
 use mathlib.Core.Logic.{_⊎_, ⊎-elim, inl, inr}
 use lib.ListN.{length, take, drop, length-drop}
 use lib.Seq.{getD-drop, length-take-le}
-use lib.Dec.{ltb, eqb}
 use native.Mathlib.Nat.{zero-add}
 use native.Mathlib.Omega.{arith}
 use borrow.Author.Tests.{eq-eqb, ne-eqb, lt-ltb, ltb-false}

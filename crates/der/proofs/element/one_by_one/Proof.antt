@@ -1,6 +1,6 @@
 -- The loop stands at the first byte of an element: what is checked so far is sound, and what is left decides.
 use Rattle.der.proofs.Auto.{tests}
-use Prim.Native.Nat.{ℕ, _+_, _-_, _/_, _%_, _<_, _≤_}
+use Prim.Native.Nat.{_+_, _-_, _/_, _%_, _<_, _≤_}
 use mathlib.Core.Path.{_≡_, _∙_, sym, ap, refl}
 use native.Mathlib.Nat.{zero-add}
 use native.Mathlib.Omega.{arith}
