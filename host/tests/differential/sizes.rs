@@ -221,6 +221,37 @@ fn run_of_size(size: usize) -> Vec<u8> {
     run
 }
 
+/// Runs about as long as the longest element, 65,539 bytes, and longer ones, whole, cut and with bytes turned.
+#[test]
+fn runs_longer_than_any_element() {
+    let mut tally = Tally::default();
+    let longest = Node::primitive(0x30, &run_of_size(65_535)).encode();
+    assert_eq!(longest.len(), 65_539);
+    let sizes = (65_536..=65_544).chain([100_000, 131_077, 131_078, 131_079]);
+    let mut runs: Vec<Vec<u8>> = sizes.map(run_of_size).collect();
+    runs.push(longest.clone());
+    runs.push([&longest[..], &run_of_size(3)[..]].concat());
+    runs.push([&run_of_size(3)[..], &longest[..]].concat());
+    runs.push([&longest[..], &longest[..]].concat());
+    for run in runs {
+        assert_eq!(tally.run(&run), None);
+        for cut in [1, 2, 3, run.len() - 2] {
+            let _ = tally.run(&run[..run.len() - cut]);
+        }
+        // tags and lengths of every sixth element, which are 102 bytes long, with or without three bytes before them
+        let heads = (0..run.len() - 612).step_by(612);
+        let places = heads.flat_map(|at| [at, at + 1, at + 3, at + 4]);
+        for at in places.chain(run.len() - 40..run.len()) {
+            for byte in [0x00, 0x05, 0x1F, 0x30, 0x80, 0xFF] {
+                let mut turned = run.clone();
+                turned[at] = byte;
+                let _ = tally.run(&turned);
+            }
+        }
+    }
+    tally.report("runs longer than any element");
+}
+
 #[test]
 fn every_length_form_at_every_element() {
     let mut tally = Tally::default();
