@@ -207,7 +207,8 @@ enum duskstall_failure {
     DUSKSTALL_NO_BIT = 255
 };
 
-/* Why a message is refused by 2: the lowest rule that is broken at the lowest offset (ITU-T X.690, narrowed). */
+/* Why a message is refused by 2: the lowest rule that is broken at the lowest offset (ITU-T X.690, narrowed).
+ * The offset lies in the message or, by DUSKSTALL_RULE_GRAMMAR only, at its end. */
 enum duskstall_rule {
     DUSKSTALL_RULE_TAG = 1,
     DUSKSTALL_RULE_LENGTH = 2,  /* not xx, 81 xx or 82 xx xx, not the shortest, or beyond the element around it */

@@ -12,7 +12,8 @@ pub struct Span {
 /// A refused message: number 1 (size) or 2 (not DER or not the grammar). For
 /// number 2 the lowest offset at fault and the lowest rule broken there: 1 tag,
 /// 2 length, 3 primitive or constructed form and depth, 4 content, 5 grammar.
-/// For number 1 both are 0.
+/// The offset lies in the message or, by rule 5 only, at its end. For number 1
+/// both are 0.
 #[derive(Clone, Copy, Debug, PartialEq, Eq)]
 pub struct Refused {
     pub number: u8,

@@ -96,23 +96,6 @@ fn every_public_function_has_two_wrong_answers() {
     assert!(missing.is_empty(), "not in PROMISES.md: {missing:#?}");
 }
 
-#[test]
-fn each_crate_has_as_many_edit_files_as_public_functions() {
-    let public: Vec<String> = all_functions()
-        .iter()
-        .filter(|function| function.public)
-        .map(|function| crate_of(&function.path))
-        .collect();
-    let edited: Vec<String> = edits().iter().map(|edit| crate_of(edit)).collect();
-    let count = |all: &[String], name: &str| all.iter().filter(|n| *n == name).count();
-    let crates: BTreeSet<&String> = public.iter().collect();
-    for name in crates {
-        let (functions, files) = (count(&public, name), count(&edited, name));
-        println!("{name}: public functions {functions}, edit files {files}");
-        assert!(functions <= files, "{name} has too few edit files");
-    }
-}
-
 /// In one edit file no function is turned twice, and none uses a constant that is changed for another: else it would not show
 /// which change the prover refused. That none calls another, `.ci/edits` asks of the prover's log.
 #[test]

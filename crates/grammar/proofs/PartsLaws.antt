@@ -1,7 +1,7 @@
 -- Laws of the shared grammar rules: each member of a SEQUENCE OF moves the cursor on, and a field with short lengths ends where they say.
 use Prim.Native.Nat.{ℕ, _+_, _-_, _<_, _≤_}
 use mathlib.Core.Path.{_≡_, refl, _∙_, ap}
-use mathlib.Core.Bool.{true, cond, _&&_}
+use mathlib.Core.Bool.{true, _&&_}
 use mathlib.Core.List.{List}
 use native.Mathlib.Nat.{add-zero, add-assoc}
 use native.Mathlib.Omega.{arith}
@@ -16,7 +16,7 @@ use Rattle.der.proofs.OneForm.{short-read}
 use Rattle.grammar.specs.declared.cursor.Cursor.{Cursor}
 use Rattle.grammar.specs.declared.parts.Each.{Each}
 use Rattle.grammar.specs.declared.parts.Each.the-variants.{Text, Certificate, Info}
-use Rattle.grammar.specs.Cursor.{headIn, tagAt, pastOf, needOf, noneOf, doneOf, enterOf}
+use Rattle.grammar.specs.Cursor.{headIn, tagAt, pastOf, needOf, doneOf, enterOf}
 use Rattle.grammar.specs.Parts.{typedOf, oneOf, foundOf, fieldOf, pastField}
 use Rattle.grammar.proofs.CursorLaws.{Moved, moved-need, moved-leave}
 
@@ -64,10 +64,10 @@ field-short m tag inner c rule inside first ok ok′ low fits second ends =
     let held = need-short m inner (enterOf o) refl (omega arith) second ok′ (omega (arith, next)) (omega (arith, next)) in
     let all : at + 2 + 2 + byte m (at + 2 + 1) ≡ at + 2 + l = omega (arith, next) in
     let tagged : tagAt m c ≡ tag = simp (lt-ltb at (c .end) (omega arith), le-leb (c .end) (length m) inside) first in
-    ap (λ (t : ℕ). cond (eqb t tag) (foundOf (needOf m tag c) (doneOf (needOf m inner (enterOf (needOf m tag c))))) (noneOf c)) tagged
-    ∙ simp (eq-eqb tag tag refl) (ap (λ (v : Cursor). foundOf v (doneOf (needOf m inner (enterOf v)))) outer)
+    rw (eq-eqb (tagAt m c) tag tagged)
+    (ap (λ (v : Cursor). foundOf v (doneOf (needOf m inner (enterOf v)))) outer
     ∙ ap (λ (v : Cursor). foundOf o (doneOf v)) held
-    ∙ rw (all, le-ltb (at + 2 + l) (at + 2 + l) (omega arith), add-assoc at 2 2) refl
+    ∙ rw (all, le-ltb (at + 2 + l) (at + 2 + l) (omega arith), add-assoc at 2 2) refl)
 
 -- each of the tests before it
 pub tags-told : (rule first tag inner : ℕ) → (eqb rule 0 && (eqb first tag && (tagOk tag && tagOk inner))) ≡ true → (rule ≡ 0) × (first ≡ tag) × (tagOk tag ≡ true) × (tagOk inner ≡ true)
