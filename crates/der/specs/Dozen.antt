@@ -30,13 +30,13 @@ sameNumber (some m) none = false
 sameNumber (some m) (some n) = eqb m n
 
 -- the number that an element with this tag and length says, where it is an INTEGER; `value` reads its content
-pub numberIn : (List ℕ → ℕ) → List ℕ → Head → Option ℕ
-numberIn value s (Bad rule) = none
-numberIn value s (Whole tag start len) = cond (eqb tag 0x02) (some (value (take len (drop start s)))) none
+pub integerIn : (List ℕ → ℕ) → List ℕ → Head → Option ℕ
+integerIn value s (Bad rule) = none
+integerIn value s (Whole tag start len) = cond (eqb tag 0x02) (some (value (take len (drop start s)))) none
 
 -- the same of bytes that are an element
-pub numberOf : (List ℕ → ℕ) → List ℕ → Option ℕ
-numberOf value s = cond (isElement maxDepth s) (numberIn value s (headOf s)) none
+pub integerSaid : (List ℕ → ℕ) → List ℕ → Option ℕ
+integerSaid value s = cond (isElement maxDepth s) (integerIn value s (headOf s)) none
 
 -- a number below 0, as it is handed on in 32 bits
 pub minus : ℕ → ℕ
@@ -64,7 +64,7 @@ answered [] = true
 answered (c ∷ cs) =
     same (check (c .bytes)) (c .says)
     && (cond (isSound (c .says)) (isElement maxDepth (c .bytes)) (not (isElement maxDepth (c .bytes)))
-    && (sameNumber (numberOf integerOf (c .bytes)) (c .number) && (sameNumber (numberOf signed32 (c .bytes)) (c .number) && answered cs)))
+    && (sameNumber (integerSaid integerOf (c .bytes)) (c .number) && (sameNumber (integerSaid signed32 (c .bytes)) (c .number) && answered cs)))
 
 pub cases : List Case
 cases =
@@ -83,5 +83,5 @@ cases =
     ∷ []
 
 pub dozen : answered cases ≡ true
-unfolding answered same sameNumber numberIn numberOf minus cases _says_ _isNumber_ tagOk inside length81 length82 lengthOf headOf booleanOk integerOk bitStringOk arcsOk oidOk contentOk formOk judge elementOf eachElement contentAt checkAt check fills isElement unsigned integerOf shiftIn signed32
+unfolding answered same sameNumber integerIn integerSaid minus cases _says_ _isNumber_ tagOk inside length81 length82 lengthOf headOf booleanOk integerOk bitStringOk arcsOk oidOk contentOk formOk judge elementOf eachElement contentAt checkAt check fills isElement unsigned integerOf shiftIn signed32
 dozen = refl

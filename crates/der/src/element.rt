@@ -19,7 +19,7 @@ pub enum Element {
     // its size, tag and length included
     Primitive(usize),
     // where its content starts and how long it is
-    Constructed(usize, usize),
+    Constructed { start: usize, len: usize },
     // the lowest rule that it breaks
     Faulty(u8),
 }

@@ -272,15 +272,15 @@ module _ (m : List ℕ) (n : ℕ) where
   unfolding bodyOf
   body c w = let b = body-tag c w in leave _ _ b (done _ (contents (tagAt m c - 0xA0) _ (enter _ b)))
 
-  message : In (startAt (length m)) → In (messageOf m .cur)
+  message : In (startAt (length m)) → messageOf m .at .0 ≤ n
   unfolding messageOf
   message w =
       let s = need 0x30 _ w in
-      done _ (leave _ _ s (done _ (sequence-field 0xA1 Certificate _ (field 0xA0 0x03 _ (body _ (header _ (enter _ s)))))))
+      done _ (leave _ _ s (done _ (sequence-field 0xA1 Certificate _ (field 0xA0 0x03 _ (body _ (header _ (enter _ s))))))) .at
 
 -- WHERE THE GRAMMAR STOPS: in the message or at its end, whether it is broken there or not
-pub grammar-in : (m : List ℕ) → messageOf m .cur .at ≤ length m
+pub grammar-in : (m : List ℕ) → messageOf m .at .0 ≤ length m
 unfolding startAt
 grammar-in m =
     let w : Within (length m) (startAt (length m)) = record { at = omega arith; end = omega arith; from = omega arith; to = omega arith } in
-    message m (length m) w .at
+    message m (length m) w

@@ -2,6 +2,7 @@
 -- and the four parts stand one after another up to the message's end.
 use Prim.Native.Nat.{ℕ, _+_, _-_, _<_, _≤_}
 use mathlib.Core.Path.{_≡_, refl, sym, _∙_, subst}
+use mathlib.Core.Bool.{true}
 use mathlib.Core.List.{List}
 use mathlib.Core.Logic.{_⊎_, inl, inr}
 use native.Mathlib.Omega.{arith}
@@ -110,14 +111,8 @@ need-ends m tag c = cond-both Ends (isOk c) (λ q. past (headIn m (c .at) (c .en
 
 -- ## The theorem
 
--- the cursor that has read a message lies inside the message
-pub message-placed : (m : List ℕ) → Placed (length m) (messageOf m .cur)
-unfolding messageOf startAt
-message-placed m =
-    done-kept (leave-kept _ (took-kept (need-takes m 0x30 (startAt (length m))) (λ k. record { low = omega arith; high = omega arith; span = absent refl refl })))
-
 -- EVERY PLACE FOUND: where the grammar is met, every span of the message lies inside the message and inside its parent
-pub found-in : (m : List ℕ) → Ok (messageOf m .cur) → FoundIn (length m) (messageOf m .found)
+pub found-in : (m : List ℕ) → messageOf m .met ≡ true → FoundIn (length m) (messageOf m .found)
 unfolding messageOf startAt
 found-in m k =
     let c₀ : Cursor = startAt (length m) in

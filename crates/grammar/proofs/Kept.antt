@@ -43,7 +43,7 @@ ids-keep m n c p =
     (kept (sequence-field-steps m 0xA7 Text _) (kept (field-steps m 0xA6 0x04 _) (kept (field-steps m 0xA5 0x04 _) (kept (field-steps m 0xA4 0x04 c) p))))
 
 module _ (m : List ℕ) (tag inner kind : ℕ) (each : Each) (what : EntryKind) where
-  -- the verbs and the rules, but for the two ways out of an element (`leave-kept`, `found-steps`) and the whole message (`message-placed`)
+  -- the verbs and the rules, but for the two ways out of an element (`leave-kept`, `found-steps`) and the whole message (`grammar-in`)
   unfoldable pub rules : List (Cursor → Cursor)
   rules =
       needOf m tag

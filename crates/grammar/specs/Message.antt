@@ -8,7 +8,7 @@ use Rattle.grammar.specs.declared.parts.Each.the-variants.{Certificate}
 use Rattle.grammar.specs.declared.pki_header.HeaderRead.{HeaderRead}
 use Rattle.grammar.specs.declared.pki_body.BodyRead.{BodyRead}
 use Rattle.grammar.specs.declared.pki_message.MessageRead.{MessageRead}
-use Rattle.grammar.specs.Cursor.{needOf, doneOf, enterOf, leaveOf}
+use Rattle.grammar.specs.Cursor.{isOk, needOf, doneOf, enterOf, leaveOf}
 use Rattle.grammar.specs.Parts.{wholeSpan, outerSpan, fieldOf, sequenceField}
 use Rattle.grammar.specs.Header.{headerOf}
 use Rattle.grammar.specs.Body.{bodyOf}
@@ -27,8 +27,10 @@ messageOf m =
     let b : BodyRead = bodyOf m (h .cur) in
     let p : Cursor = fieldOf m 0xA0 0x03 (b .cur) in
     let x : Cursor = sequenceField m 0xA1 Certificate p in
+    let e : Cursor = doneOf (leaveOf s (doneOf x)) in
     record {
-      cur = doneOf (leaveOf s (doneOf x));
+      met = isOk e;
+      at = record { 0 = e .at };
       found =
           record {
             «header_span» = wholeSpan c (h .cur);

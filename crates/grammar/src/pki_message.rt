@@ -12,13 +12,15 @@ use crate::parts::sequence_field;
 use crate::parts::whole_span;
 use crate::pki_body::read_body;
 use crate::pki_header::read_header;
+use der::Offset;
 ghost use mathlib.Core.Path.{_≡_};
 ghost use lib.ListN.{length};
 ghost use Rattle.grammar.specs.Message.{startAt, messageOf};
 
-// What the grammar found, up to its fault if it has one.
+// Whether the grammar is met, where reading by it stopped (at its fault, by rule 5, where it is not met), and what was found up to there.
 pub struct MessageRead {
-    pub cur: Cursor,
+    pub met: bool,
+    pub at: Offset,
     pub found: Message,
 }
 
@@ -55,5 +57,9 @@ pub fn read_message(m: &[u8]) -> MessageRead
         header,
         body,
     };
-    MessageRead { cur, found }
+    MessageRead {
+        met: cur.rule == 0,
+        at: Offset(cur.at),
+        found,
+    }
 }

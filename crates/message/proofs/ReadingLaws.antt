@@ -17,7 +17,6 @@ use Rattle.der.proofs.HeadLaws.{cond-both}
 use Rattle.der.proofs.ElementLaws.{fault-in}
 use Rattle.der.proofs.RuleLaws.{check-rule}
 use Rattle.grammar.specs.declared.Message.{Message}
-use Rattle.grammar.specs.Cursor.{isOk}
 use Rattle.grammar.specs.Message.{messageOf}
 use Rattle.grammar.proofs.Found.{FoundIn, found-in}
 use Rattle.grammar.proofs.FaultPlace.{grammar-in}
@@ -34,7 +33,7 @@ NoLength m = (length m ≡ 0) ⊎ (maxMessage < length m)
 
 -- the grammar is not met
 abbrev pub Unmet : List ℕ → Type 0
-Unmet m = isOk (messageOf m .cur) ≡ false
+Unmet m = messageOf m .met ≡ false
 
 -- the bytes are not DER, or the grammar is not met
 abbrev pub Broken : List ℕ → Type 0
@@ -45,15 +44,15 @@ pub record CleanOf (m : List ℕ) (x : Message) : Type 0 where
   pub some : 1 ≤ length m
   pub few : length m ≤ maxMessage
   pub sound : check m ≡ Sound
-  pub met : isOk (messageOf m .cur) ≡ true
+  pub met : messageOf m .met ≡ true
   pub found : x ≡ messageOf m .found
 
 -- the fault at this offset, of this rule, is the lowest of the two, DER's (rules 1 to 4) where the grammar's (rule 5) stands at the
 -- same offset
 pub record Lowest (m : List ℕ) (at rule : ℕ) : Type 0 where
   pub der : (a : Offset) (q : ℕ) → check m ≡ Fault a q → at ≤ a .0
-  pub grammar : Unmet m → at ≤ messageOf m .cur .at
-  pub named : ((check m ≡ Fault (record { 0 = at }) rule) × (1 ≤ rule) × (rule ≤ 4)) ⊎ (Unmet m × (at ≡ messageOf m .cur .at) × (rule ≡ 5) × ((a : Offset) (q : ℕ) → check m ≡ Fault a q → at < a .0))
+  pub grammar : Unmet m → at ≤ messageOf m .at .0
+  pub named : ((check m ≡ Fault (record { 0 = at }) rule) × (1 ≤ rule) × (rule ≤ 4)) ⊎ (Unmet m × (at ≡ messageOf m .at .0) × (rule ≡ 5) × ((a : Offset) (q : ℕ) → check m ≡ Fault a q → at < a .0))
 
 -- refusal 2 is of a message of 1 to 16,384 bytes and names the lowest fault
 pub record BrokenAt (m : List ℕ) (r : ReadFault) : Type 0 where
@@ -81,24 +80,24 @@ module _ (m : List ℕ) (some : 1 ≤ length m) (few : length m ≤ maxMessage) 
   says-broken l = inr (record { some = some; few = few; number = refl; lowest = l })
 
   -- DER's fault, where the grammar is met or broken no earlier
-  of-der : {a : Offset} {q : ℕ} → check m ≡ Fault a q → (Unmet m → a .0 ≤ messageOf m .cur .at) → Lowest m (a .0) q
+  of-der : {a : Offset} {q : ℕ} → check m ≡ Fault a q → (Unmet m → a .0 ≤ messageOf m .at .0) → Lowest m (a .0) q
   of-der {a} {q} e f = record { der = λ b p g. omega (arith, same-at e g); grammar = f; named = inl (e, check-rule m e .0, check-rule m e .1) }
 
   -- the grammar's fault, where there is none of DER's or a later one
-  of-grammar : Unmet m → ((a : Offset) (q : ℕ) → check m ≡ Fault a q → messageOf m .cur .at < a .0) → Lowest m (messageOf m .cur .at) 5
+  of-grammar : Unmet m → ((a : Offset) (q : ℕ) → check m ≡ Fault a q → messageOf m .at .0 < a .0) → Lowest m (messageOf m .at .0) 5
   of-grammar u f = record { der = λ a q e. omega (arith, f a q e); grammar = λ w. omega arith; named = inr (u, refl, refl, f) }
 
   says-lowest : (v : Check) → check m ≡ v → Says m (lowest v (messageOf m))
   unfolding lowest Says
   says-lowest Sound e =
-      cond-both (Says m) (isOk (messageOf m .cur))
+      cond-both (Says m) (messageOf m .met)
       (λ k. record { some = some; few = few; sound = e; met = k; found = refl })
       (λ k. says-broken (of-grammar k (λ a q g. absurd (no-fault e g))))
   says-lowest (Fault a q) e =
-      cond-both (Says m) (isOk (messageOf m .cur)) (λ k. says-broken (of-der e (λ u. absurd (true≢false (sym k ∙ u)))))
-      (λ k. cond-both (Says m) (ltb (messageOf m .cur .at) (a .0))
-      (λ t. says-broken (of-grammar k (λ b p g. omega (arith, ltb-true (messageOf m .cur .at) (a .0) t, same-at e g))))
-      (λ t. says-broken (of-der e (λ u. ltb-false (messageOf m .cur .at) (a .0) t))))
+      cond-both (Says m) (messageOf m .met) (λ k. says-broken (of-der e (λ u. absurd (true≢false (sym k ∙ u)))))
+      (λ k. cond-both (Says m) (ltb (messageOf m .at .0) (a .0))
+      (λ t. says-broken (of-grammar k (λ b p g. omega (arith, ltb-true (messageOf m .at .0) (a .0) t, same-at e g))))
+      (λ t. says-broken (of-der e (λ u. ltb-false (messageOf m .at .0) (a .0) t))))
 
 says : (m : List ℕ) → Says m (readingOf m)
 unfolding readingOf Says

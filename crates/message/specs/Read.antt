@@ -12,7 +12,6 @@ use Rattle.grammar.specs.declared.Message.{Message}
 use Rattle.message.specs.declared.Reading.{Reading}
 use Rattle.message.specs.declared.Reading.the-variants.{Clean, Refused}
 use Rattle.grammar.specs.declared.pki_message.MessageRead.{MessageRead}
-use Rattle.grammar.specs.Cursor.{isOk}
 use Rattle.grammar.specs.Message.{messageOf}
 
 -- messages of 1 to 16,384 bytes
@@ -29,8 +28,8 @@ brokenAt at rule = Refused (record { number = 2; at = at; rule = rule })
 
 -- the lower of the two faults, if there is one; at one offset DER's rules 1 to 4 come before the grammar's 5
 unfoldable pub lowest : Check → MessageRead → Reading
-lowest Sound g = cond (isOk (g .cur)) (Clean (g .found)) (brokenAt (record { 0 = g .cur .at }) 5)
-lowest (Fault at rule) g = cond (isOk (g .cur)) (brokenAt at rule) (cond (ltb (g .cur .at) (at .0)) (brokenAt (record { 0 = g .cur .at }) 5) (brokenAt at rule))
+lowest Sound g = cond (g .met) (Clean (g .found)) (brokenAt (g .at) 5)
+lowest (Fault at rule) g = cond (g .met) (brokenAt at rule) (cond (ltb (g .at .0) (at .0)) (brokenAt (g .at) 5) (brokenAt at rule))
 
 unfoldable pub readingOf : List ℕ → Reading
 readingOf m = cond (eqb (length m) 0 || ltb maxMessage (length m)) badLength (lowest (check m) (messageOf m))

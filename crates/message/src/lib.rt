@@ -38,12 +38,12 @@ fn broken_at(at: Offset, rule: u8) -> Reading
 fn lower(at: Offset, rule: u8, g: MessageRead) -> Reading
     ensures { λ r. ⌜ r ≡ lowest (Check.Fault at rule) g ⌝ }
 {
-    let cur = g.cur;
-    if cur.rule == 0 {
+    let stop = g.at;
+    if g.met {
         return broken_at(at, rule);
     }
-    if cur.at < at.0 {
-        return broken_at(Offset(cur.at), 5);
+    if stop.0 < at.0 {
+        return broken_at(stop, 5);
     }
     broken_at(at, rule)
 }
@@ -54,12 +54,11 @@ fn lowest_fault(c: Check, g: MessageRead) -> Reading
     match c {
         Check::Fault(at, rule) => lower(at, rule, g),
         Check::Sound => {
-            let cur = g.cur;
-            if cur.rule == 0 {
+            if g.met {
                 let found = g.found;
                 return Reading::Clean(found);
             }
-            broken_at(Offset(cur.at), 5)
+            broken_at(g.at, 5)
         }
     }
 }

@@ -30,7 +30,7 @@ use Rattle.protocol.proofs.Tests.{same-number, holds-not, either, both,
 use Rattle.protocol.proofs.Carried.{part-there}
 use Rattle.protocol.proofs.Rows.{check-is, skip, through}
 use Rattle.protocol.proofs.RegistrarPromises.{message-promise}
-use Rattle.protocol.proofs.Slots.{held-at, sending-becomes}
+use Rattle.protocol.proofs.Slots.{first-at, sending-becomes}
 use Rattle.protocol.proofs.ConfirmationMoves.{present-test, part-present, present-part, message-at, fields-at, Ends, EndsWith, ends}
 
 module _ (t : TransactionTable) (d : RegistrarInput) (bytes : List ℕ) (m : Message) (r : Transaction) (c : Matches t d bytes m r) where
@@ -188,7 +188,7 @@ module _ (t : TransactionTable) (d : RegistrarInput) (bytes : List ℕ) (m : Mes
       let e : registrarMessage t d bytes ≡ a =
       passed t d bytes m r (c .match) (l .0) (l .1) (or-true (isGranted (r .state)) (repeats r (fieldsOf bytes m)) (repeats-it c))
       ∙ rw (l .2, id-is t d bytes m r (c .match), nonce-is t d bytes m r (c .match)) in
-      subst (RepeatedAnswer t d r (c .match .id) (c .match .nonce)) (sym e) (record { again = refl; fault = refl; held = held-at t (c .match .id) r (c .match .holds); sends = (refl, refl); table = refl })
+      subst (RepeatedAnswer t d r (c .match .id) (c .match .nonce)) (sym e) (record { again = refl; fault = refl; held = first-at t (c .match .id) r (c .match .holds); sends = (refl, refl); table = refl })
 
 -- ## The rule
 

@@ -1,5 +1,5 @@
 -- The slot of a transaction, and the table with that slot changed, by what each slot holds.
-use Prim.Native.Nat.{suc}
+use Prim.Native.Nat.{ℕ, zero, suc, _≤_}
 use mathlib.Core.List.{List, [], _∷_}
 use mathlib.Core.Bool.{Bool, true, false, cond}
 use mathlib.Core.Option.{some}
@@ -11,9 +11,11 @@ use Rattle.protocol.specs.declared.TransactionTable.{TransactionTable}
 use Rattle.protocol.specs.declared.Outgoing.{Outgoing}
 use Rattle.protocol.specs.Table.{isFree, isFor, lookup, slotOf, replace, freeSlot, put}
 use Rattle.protocol.specs.Registrar.{doneSending, doneQuietly}
-use Rattle.protocol.specs.Slots.{HoldsAt, OnlyAt, Becomes}
-use Rattle.protocol.proofs.Tests.{none-some, true-false, cases}
-use Rattle.protocol.proofs.Lookup.{found, isFor-id, isFor-live}
+use Rattle.protocol.specs.Slots.{HoldsAt, FirstAt, OnlyAt, Becomes}
+use Rattle.protocol.proofs.Tests.{none-some, some-some, true-false, cases}
+use Rattle.protocol.proofs.RegistrarStates.{in-use}
+use native.Mathlib.Omega.{arith}
+use Rattle.protocol.proofs.Lookup.{found, isFor-id, isFor-live, isFor-make}
 use Rattle.protocol.proofs.Changes.{replace-others, put-others}
 
 -- ## The slot of an id
@@ -31,6 +33,19 @@ pub held-at : (t : TransactionTable) (i : TransactionId) (r : Transaction) → l
 held-at t i r h =
     let f : isFor i r ≡ true = found (t .transactions) i r h in
     record { holds = slot-holds (t .transactions) i r h; inUse = λ q. true-false (sym (ap isFree q) ∙ isFor-live i r f); id = isFor-id i r f }
+
+slot-first : (rs : List Transaction) (i : TransactionId) (q : ℕ) (s : Transaction) → getElem? rs q ≡ some s → isFor i s ≡ true → slotOf rs i ≤ q
+unfolding slotOf
+slot-first [] i q s e f = none-some e
+slot-first (r ∷ rs) i zero s e f =
+    cases (λ (n : ℕ). n ≤ 0) (isFor i r) 0 (suc (slotOf rs i)) (λ _. omega arith) (λ k. true-false (sym f ∙ ap (isFor i) (sym (some-some e)) ∙ k))
+slot-first (r ∷ rs) i (suc q) s e f =
+    let h : slotOf rs i ≤ q = slot-first rs i q s e f in
+    cases (λ (n : ℕ). n ≤ suc q) (isFor i r) 0 (suc (slotOf rs i)) (λ _. omega arith) (λ _. omega (arith, h))
+
+pub first-at : (t : TransactionTable) (i : TransactionId) (r : Transaction) → lookup (t .transactions) i ≡ some r → FirstAt t (slotOf (t .transactions) i) i r
+first-at t i r h =
+    record { holds = held-at t i r h; first = λ q s g. slot-first (t .transactions) i q s (g .holds) (isFor-make i s (in-use (s .state) (g .inUse)) (g .id)) }
 
 -- ## One transaction is replaced
 
@@ -56,10 +71,10 @@ module _ (t : TransactionTable) (i : TransactionId) (r x : Transaction) (h : loo
   replaced-only = record { holds = replace-there (t .transactions) i x r h; others = replace-others (t .transactions) i x; slots = replace-length (t .transactions) i x }
 
   pub sending-becomes : (o : Outgoing) → Becomes t i r x (doneSending (slotOf (t .transactions) i) (replace (t .transactions) i x) o)
-  sending-becomes o = record { done = refl; fault = refl; held = held-at t i r h; only = replaced-only }
+  sending-becomes o = record { done = refl; fault = refl; held = first-at t i r h; only = replaced-only }
 
   pub quietly-becomes : Becomes t i r x (doneQuietly (slotOf (t .transactions) i) (replace (t .transactions) i x))
-  quietly-becomes = record { done = refl; fault = refl; held = held-at t i r h; only = replaced-only }
+  quietly-becomes = record { done = refl; fault = refl; held = first-at t i r h; only = replaced-only }
 
 -- ## One transaction is put into the lowest free slot
 

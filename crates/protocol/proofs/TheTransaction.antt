@@ -4,6 +4,7 @@ use mathlib.Core.List.{List, [], _∷_}
 use mathlib.Core.Option.{Option, none, some}
 use mathlib.Core.Path.{_≡_, refl, sym, _∙_, subst}
 use native.Mathlib.Decide.{ℕ-discrete}
+use native.Mathlib.Omega.{arith}
 use lib.ListN.{getElem?}
 use Rattle.protocol.specs.declared.TransactionId.{TransactionId}
 use Rattle.protocol.specs.declared.Transaction.{Transaction}
@@ -64,9 +65,11 @@ module _ (t : TransactionTable) (p : ℕ) (x : Transaction) (u v : TransactionTa
   same-table : u .transactions ≡ v .transactions
   same-table = same-list (u .transactions) (v .transactions) (λ q. same-at q (ℕ-discrete q p))
 
--- two answers of which the same is said are the same, where an id has at most one transaction
-pub one-answer : (t : TransactionTable) → AtMostOne t → (i : TransactionId) (r x : Transaction) (a b : RegistrarAnswer) → Becomes t i r x a → Becomes t i r x b → a .sends ≡ b .sends → a .outgoing ≡ b .outgoing → a ≡ b
-one-answer t one i r x a b g h s o =
-    let p : a .slot .0 ≡ b .slot .0 = same-slot t one i (a .slot .0) (b .slot .0) r r (g .held) (h .held) in
+-- two answers of which the same is said are the same, whatever the table
+pub one-answer : (t : TransactionTable) (i : TransactionId) (r x : Transaction) (a b : RegistrarAnswer) → Becomes t i r x a → Becomes t i r x b → a .sends ≡ b .sends → a .outgoing ≡ b .outgoing → a ≡ b
+one-answer t i r x a b g h s o =
+    let m = g .held .first (b .slot .0) r (h .held .holds) in
+    let n = h .held .first (a .slot .0) r (g .held .holds) in
+    let p : a .slot .0 ≡ b .slot .0 = omega (arith, m, n) in
     let u : a .table .transactions ≡ b .table .transactions = same-table t (a .slot .0) x (a .table) (b .table) (g .only) (subst (λ (q : ℕ). OnlyAt t q x (b .table)) (sym p) (h .only)) in
     λ j. record { outcome = (g .done ∙ sym (h .done)) j; fault = (g .fault ∙ sym (h .fault)) j; slot = record { 0 = p j }; sends = s j; outgoing = o j; table = record { transactions = u j } }

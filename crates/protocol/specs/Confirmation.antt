@@ -27,7 +27,7 @@ use Rattle.protocol.specs.Refusals.{noFault}
 use Rattle.protocol.specs.Table.{lookup}
 use Rattle.protocol.specs.Registrar.{registrarMessage}
 use Rattle.protocol.specs.MessageRules.{IsRefused}
-use Rattle.protocol.specs.Slots.{HoldsAt, Becomes, Sends}
+use Rattle.protocol.specs.Slots.{FirstAt, Becomes, Sends}
 
 -- the 16 bytes of a part that is there
 abbrev pub Sixteen : List ℕ → Span → List ℕ → Type 0
@@ -110,7 +110,7 @@ MovedAnswer t d r i n s a =
 pub record RepeatedAnswer (t : TransactionTable) (d : RegistrarInput) (r : Transaction) (i : TransactionId) (n : Nonce) (a : RegistrarAnswer) : Type 0 where
   pub again : a .outcome ≡ outcome.Again
   pub fault : a .fault ≡ noFault
-  pub held : HoldsAt t (a .slot .0) i r
+  pub held : FirstAt t (a .slot .0) i r
   pub sends : Sends (acknowledgement d i n) a
   pub table : a .table ≡ t
 

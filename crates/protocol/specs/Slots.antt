@@ -1,5 +1,5 @@
 -- Where a transaction stands, and what an answer changes: one slot of the table, and no other.
-use Prim.Native.Nat.{ℕ}
+use Prim.Native.Nat.{ℕ, _≤_}
 use mathlib.Core.Bool.{true, false}
 use mathlib.Core.Option.{some}
 use mathlib.Core.Path.{_≡_}
@@ -21,6 +21,11 @@ pub record HoldsAt (t : TransactionTable) (p : ℕ) (i : TransactionId) (r : Tra
   pub inUse : r .state ≢ Free
   pub id : r .id ≡ i
 
+-- it is the first such slot
+pub record FirstAt (t : TransactionTable) (p : ℕ) (i : TransactionId) (r : Transaction) : Type 0 where
+  pub holds : HoldsAt t p i r
+  pub first : (q : ℕ) (s : Transaction) → HoldsAt t q i s → p ≤ q
+
 -- from t to u: the slot p holds x now, every other slot what it held, and no slot is lost or added
 pub record OnlyAt (t : TransactionTable) (p : ℕ) (x : Transaction) (u : TransactionTable) : Type 0 where
   pub holds : getElem? (u .transactions) p ≡ some x
@@ -31,7 +36,7 @@ pub record OnlyAt (t : TransactionTable) (p : ℕ) (x : Transaction) (u : Transa
 pub record Becomes (t : TransactionTable) (i : TransactionId) (r x : Transaction) (a : RegistrarAnswer) : Type 0 where
   pub done : a .outcome ≡ outcome.Done
   pub fault : a .fault ≡ noFault
-  pub held : HoldsAt t (a .slot .0) i r
+  pub held : FirstAt t (a .slot .0) i r
   pub only : OnlyAt t (a .slot .0) x (a .table)
 
 -- this is sent

@@ -7,8 +7,8 @@ pub lower-spec : {M : Type 1} → statement M
 unfolding lowest
 lower-spec = tie.close (tie.spec
     (λ c κs. search tests)
-    (λ c. search (tests, c .broken-at .ensures))
+    (λ c. search (tests, c .broken-at .ensures, c .before .if1 .taken))
     (λ c κs. search tests)
-    (λ c. search (tests, c .broken-at2 .ensures))
+    (λ c. search (tests, c .broken-at2 .ensures, c .before .before .before .before .if1 .left))
     (λ c κs. search tests)
-    (λ c. search (tests, c .broken-at3 .ensures)))
+    (λ c. search (tests, c .broken-at3 .ensures, c .before .before .before .before .if1 .left)))

@@ -9,7 +9,7 @@ use Rattle.grammar.specs.declared.parts.Each.the-variants.{Certificate}
 use Rattle.grammar.specs.declared.pki_header.HeaderRead.{HeaderRead}
 use Rattle.grammar.specs.declared.pki_body.BodyRead.{BodyRead}
 use Rattle.grammar.specs.declared.pki_message.MessageRead.{MessageRead}
-use Rattle.grammar.specs.Cursor.{needOf, doneOf, enterOf, leaveOf}
+use Rattle.grammar.specs.Cursor.{isOk, needOf, doneOf, enterOf, leaveOf}
 use Rattle.grammar.specs.Parts.{wholeSpan, outerSpan, fieldOf, sequenceField}
 use Rattle.grammar.specs.Header.{headerOf}
 use Rattle.grammar.specs.Body.{bodyOf}
@@ -21,12 +21,13 @@ whole : (m : List ℕ) {z s c p x d l q : Cursor} {h : HeaderRead} {b : BodyRead
     z ≡ startAt (length m) → s ≡ needOf m 0x30 z → c ≡ enterOf s → h ≡ headerOf m c → b ≡ bodyOf m (h .cur) → p ≡ fieldOf m 0xA0 0x03 (b .cur) → x ≡ sequenceField m 0xA1 Certificate p →
     d ≡ doneOf x → l ≡ leaveOf s d → q ≡ doneOf l →
     i ≡ wholeSpan c (h .cur) → j ≡ wholeSpan (h .cur) (b .cur) → k ≡ outerSpan (b .cur) p → n ≡ outerSpan p x →
-    _≡_ {A = MessageRead} (record { cur = q; found = record { «header_span» = i; «body_span» = j; protection = k; «extra_certs» = n; header = h .header; body = b .body } }) (messageOf m)
+    _≡_ {A = MessageRead} (record { met = isOk q; at = record { 0 = q .at }; found = record { «header_span» = i; «body_span» = j; protection = k; «extra_certs» = n; header = h .header; body = b .body } }) (messageOf m)
 unfolding messageOf
 whole m z s c h b p x d l q i j k n = simp (i, j, k, n, q, l, d, x, p, b, h, c, s, z)
 
 returns : tie.Need-returns
-returns c =
+returns e =
+    let c = e .before in
     let outer-span = c .before in
     let whole-span2 = outer-span .before in
     let whole-span = whole-span2 .before in
