@@ -16,8 +16,9 @@ use Rattle.der.proofs.OneForm.{short-read}
 use Rattle.grammar.specs.declared.cursor.Cursor.{Cursor}
 use Rattle.grammar.specs.declared.parts.Each.{Each}
 use Rattle.grammar.specs.declared.parts.Each.the-variants.{Text, Certificate, Info}
+use Rattle.grammar.specs.Code.{pastField}
 use Rattle.grammar.specs.Cursor.{headIn, tagAt, pastOf, needOf, noneOf, doneOf, enterOf}
-use Rattle.grammar.specs.Parts.{typedOf, oneOf, foundOf, fieldOf, pastField}
+use Rattle.grammar.specs.Parts.{typedOf, oneOf, foundOf, fieldOf}
 use Rattle.grammar.proofs.CursorLaws.{Moved, moved-need, moved-leave}
 
 pub moved-typed : (m : List ℕ) (c : Cursor) → Moved c (typedOf m c)

@@ -1,6 +1,6 @@
 -- Grammar rules that several parts of a message share (document 01, "The parts of a message"; RFC 9810 appendix F).
 -- An optional part is recognised by its tag byte; its inside must then fit.
-use Prim.Native.Nat.{ℕ, _+_, _-_, _/_, _%_, _^_}
+use Prim.Native.Nat.{ℕ, _-_, _/_, _%_, _^_}
 use mathlib.Core.List.{List}
 use mathlib.Core.Bool.{Bool, true, false, cond, _||_}
 use lib.ListN.{length}
@@ -66,10 +66,6 @@ unfoldable pub fieldOf : List ℕ → ℕ → ℕ → Cursor → Cursor
 fieldOf m tag inner c =
     let o : Cursor = needOf m tag c in
     cond (eqb (tagAt m c) tag) (foundOf o (doneOf (needOf m inner (enterOf o)))) (noneOf c)
-
--- past it where both lengths are short, and it ends at `to`
-abbrev pub pastField : Cursor → ℕ → Cursor
-pastField c to = record { at = to; end = c .end; from = c .at + 4; to = to; rule = 0 }
 
 -- [n] AlgorithmIdentifier OPTIONAL: the span is the AlgorithmIdentifier
 unfoldable pub typedField : List ℕ → ℕ → Cursor → Cursor
