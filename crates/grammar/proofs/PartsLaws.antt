@@ -1,7 +1,7 @@
 -- Laws of the shared grammar rules: each member of a SEQUENCE OF moves the cursor on, and a field with short lengths ends where they say.
 use Prim.Native.Nat.{ℕ, _+_, _-_, _<_, _≤_}
 use mathlib.Core.Path.{_≡_, refl, sym, _∙_, ap}
-use mathlib.Core.Bool.{true, cond, _&&_}
+use mathlib.Core.Bool.{true, _&&_}
 use mathlib.Core.List.{List}
 use native.Mathlib.Nat.{add-zero, add-assoc}
 use native.Mathlib.Omega.{arith}
@@ -75,9 +75,7 @@ field-short m tag inner c rule inside first ok ok′ low fits second ends =
     let held = need-short m inner (enterOf o) refl (omega arith) second ok′ (omega (arith, next)) (omega (arith, next)) in
     let all : at + 2 + 2 + byte m (at + 2 + 1) ≡ at + 2 + l = omega (arith, next) in
     let tagged : tagAt m c ≡ tag = simp (lt-ltb at (c .end) (omega arith), le-leb (c .end) (length m) inside) first in
-    ap (λ (t : ℕ). cond (eqb t tag) (foundOf (needOf m tag c) (doneOf (needOf m inner (enterOf (needOf m tag c))))) (noneOf c)) tagged
-    ∙ simp (eq-eqb tag tag refl) (ap (λ (v : Cursor). foundOf v (doneOf (needOf m inner (enterOf v)))) outer)
-    ∙ ap (λ (v : Cursor). foundOf o (doneOf v)) held
+    sym (optional-there m tag c refl foundOf (needOf m inner) tagged (sym outer) refl (sym held) refl refl)
     ∙ rw (all, le-ltb (at + 2 + l) (at + 2 + l) (omega arith), add-assoc at 2 2) refl
 
 -- each of the tests before it

@@ -4,7 +4,6 @@ use mathlib.Core.List.{List}
 use mathlib.Core.Bool.{cond, _||_}
 use lib.Dec.{ltb, eqb}
 use Rattle.grammar.specs.declared.Span.{Span}
-use Rattle.grammar.specs.declared.Entry.{Entry}
 use Rattle.grammar.specs.declared.cursor.Cursor.{Cursor}
 use Rattle.grammar.specs.declared.parts.Each.the-variants.{Certificate}
 use Rattle.grammar.specs.declared.parts.Status.{Status}
