@@ -16,7 +16,8 @@ use Rattle.der.specs.declared.head.Head.the-variants.{Bad, Whole}
 use Rattle.der.proofs.Auto.{and-left, and-right, or-false-left, or-false-right}
 use Rattle.der.proofs.HeadLaws.{cond-both, span-in, whole-in, whole-tag, unpacked}
 use Rattle.grammar.specs.declared.cursor.Cursor.{Cursor}
-use Rattle.grammar.specs.Cursor.{isOk, headIn, faultAt, pastOf, ifTag, packedIf, taggedOf, needOf, leaveOf, moreAt, leftAt, repeat}
+use Rattle.grammar.specs.Code.{packedIf, taggedOf}
+use Rattle.grammar.specs.Cursor.{isOk, headIn, faultAt, pastOf, ifTag, needOf, leaveOf, moreAt, leftAt, repeat}
 
 -- a whole element that stands between two offsets ends inside, and the second lies inside the message
 module _ (m : List ℕ) (at end : ℕ) {tag start len : ℕ} (whole : headIn m at end ≡ Whole tag start len) where

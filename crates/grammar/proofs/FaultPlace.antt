@@ -1,5 +1,5 @@
 -- A fault of the grammar lies in the message or at its end: whatever the bytes, no rule takes a cursor past the end, a broken one neither.
-use Prim.Native.Nat.{ℕ, zero, _-_, _≤_}
+use Prim.Native.Nat.{ℕ, _-_, _≤_}
 use mathlib.Core.List.{List}
 use mathlib.Core.Path.{_≡_, refl, sym}
 use mathlib.Core.Bool.{_||_}
@@ -8,7 +8,7 @@ use lib.ListN.{length}
 use lib.Dec.{ltb, eqb}
 use Rattle.der.specs.declared.head.Head.{Head}
 use Rattle.der.specs.declared.head.Head.the-variants.{Bad, Whole}
-use Rattle.der.proofs.HeadLaws.{cond-both, cond-case}
+use Rattle.der.proofs.HeadLaws.{cond-case}
 use Rattle.grammar.specs.declared.cursor.Cursor.{Cursor}
 use Rattle.grammar.specs.declared.parts.Each.{Each}
 use Rattle.grammar.specs.declared.parts.Each.the-variants.{Text, Certificate, Info}
@@ -18,7 +18,7 @@ use Rattle.grammar.specs.declared.entries.EntryKind.the-variants as of
 use Rattle.grammar.specs.declared.entries.Entries.{Entries}
 use Rattle.grammar.specs.declared.pki_body.Contents.{Contents}
 use Rattle.grammar.specs.Cursor.{isOk, headIn, tagAt, faultAt, ifTag, needOf, anyOf, noneOf, maybeOf, restOf, doneOf, enterOf, leaveOf, contentOf, smallIntegerOf, leftAt}
-use Rattle.grammar.specs.Parts.{foundOf, typedOf, allBy, sequenceBy, oneOf, sequenceOf, fieldOf, typedField, anyField, sequenceField, maybeText, lastBitSet, failInfoOf, statusOf, maybeStatus}
+use Rattle.grammar.specs.Parts.{foundOf, typedOf, allBy, sequenceBy, oneOf, sequenceOf, optionalField, fieldOf, typedField, anyField, sequenceField, maybeText, lastBitSet, failInfoOf, statusOf, maybeStatus}
 use Rattle.grammar.specs.Header.{nameTag, nameOf, namesOf, optionsOf, idsOf, headerOf}
 use Rattle.grammar.specs.Entries.{requestOf, choiceOf, keyPair, maybeKeyPair, responseOf, certStatusOf, entryOf, noEntries, next, entriesOf}
 use Rattle.grammar.specs.Body.{atLeastOne, requestsOf, responsesOf, confirmationsOf, errorOf, p10crOf, otherOf, contentsOf, bodyTag, bodyOf}
@@ -114,21 +114,25 @@ module _ (m : List ℕ) (n : ℕ) where
   unfolding sequenceOf sequenceBy
   sequence e c w = leave _ _ (need 0x30 c w) (all e _ (one e _ (enter _ (need 0x30 c w))))
 
+  -- [n] OPTIONAL around what stays inside, by a way out that does
+  optional : (out : Cursor → Cursor → Cursor) → ((o i : Cursor) → In o → In i → In (out o i)) → (t : ℕ) (f : Cursor → Cursor) → ((c : Cursor) → In c → In (f c)) → (c : Cursor) → In c → In (optionalField out m t f c)
+  optional out back t f g c w = cond-case In (eqb (tagAt m c) t) (back _ _ (need t c w) (done _ (g _ (enter _ (need t c w))))) (none c w)
+
   field : (t i : ℕ) (c : Cursor) → In c → In (fieldOf m t i c)
   unfolding fieldOf
-  field t i c w = cond-case In (eqb (tagAt m c) t) (found _ _ (need t c w) (done _ (need i _ (enter _ (need t c w))))) (none c w)
+  field t i = optional foundOf found t (needOf m i) (need i)
 
   typed-field : (t : ℕ) (c : Cursor) → In c → In (typedField m t c)
   unfolding typedField
-  typed-field t c w = cond-case In (eqb (tagAt m c) t) (inside t (typedOf m) typed c w) (none c w)
+  typed-field t = optional leaveOf leave t (typedOf m) typed
 
   any-field : (t : ℕ) (c : Cursor) → In c → In (anyField m t c)
   unfolding anyField
-  any-field t c w = cond-case In (eqb (tagAt m c) t) (inside t (anyOf m) any c w) (none c w)
+  any-field t = optional leaveOf leave t (anyOf m) any
 
   sequence-field : (t : ℕ) (e : Each) (c : Cursor) → In c → In (sequenceField m t e c)
   unfolding sequenceField
-  sequence-field t e c w = cond-case In (eqb (tagAt m c) t) (inside t (sequenceOf m e) (sequence e) c w) (none c w)
+  sequence-field t e = optional leaveOf leave t (sequenceOf m e) (sequence e)
 
   text : (c : Cursor) → In c → In (maybeText m c)
   unfolding maybeText

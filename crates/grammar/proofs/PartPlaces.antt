@@ -2,7 +2,6 @@
 use Prim.Native.Nat.{ℕ, suc, _+_, _≤_}
 use mathlib.Core.Path.{refl}
 use mathlib.Core.List.{List}
-use mathlib.Core.Bool.{cond}
 use native.Mathlib.Omega.{arith}
 use lib.Dec.{eqb}
 use Rattle.der.proofs.HeadLaws.{cond-case}
@@ -11,9 +10,9 @@ use Rattle.grammar.specs.declared.cursor.Cursor.{Cursor}
 use Rattle.grammar.specs.declared.parts.Each.{Each}
 use Rattle.grammar.specs.declared.parts.Each.the-variants.{Text, Certificate, Info}
 use Rattle.grammar.specs.declared.parts.Status.{Status}
-use Rattle.grammar.specs.Cursor.{tagAt, needOf, noneOf, enterOf, leaveOf, contentOf, leftAt}
+use Rattle.grammar.specs.Cursor.{tagAt, needOf, anyOf, enterOf, leaveOf, contentOf, leftAt}
 use Rattle.grammar.specs.Span.{spanFrom}
-use Rattle.grammar.specs.Parts.{typedOf, oneOf, allBy, sequenceBy, sequenceOf, fieldOf, typedField, anyField, sequenceField, maybeText, lastBitSet, failInfoOf, statusOf, maybeStatus}
+use Rattle.grammar.specs.Parts.{typedOf, oneOf, allBy, sequenceBy, sequenceOf, optionalField, fieldOf, typedField, anyField, sequenceField, maybeText, lastBitSet, failInfoOf, statusOf, maybeStatus}
 use Rattle.grammar.proofs.CursorLaws.{untrue}
 use Rattle.grammar.proofs.Places.{Spot, wide, Went, Took, Goes, Steps, Takes, still, _then_, steps, need-takes, none-steps, at-done, at-leave, found-steps, Placed, took-kept, repeat-keeps}
 use Rattle.grammar.proofs.Places.Spot.{absent, present}
@@ -70,20 +69,20 @@ field-steps m tag inner c =
     (found-steps (need-takes m tag c) (λ k. refl) (at-done (Went (enterOf o)) (steps (need-takes m inner (enterOf o))))) (none-steps c)
 
 -- [n] OPTIONAL with the element inside as its span
-tagged : (m : List ℕ) (tag : ℕ) (c i : Cursor) → Steps c (cond (eqb (tagAt m c) tag) (leaveOf (needOf m tag c) i) (noneOf c))
-tagged m tag c i = cond-case (Steps c) (eqb (tagAt m c) tag) (steps (at-leave (Took c) i (need-takes m tag c))) (none-steps c)
+whole-steps : (m : List ℕ) (tag : ℕ) (f : Cursor → Cursor) (c : Cursor) → Steps c (optionalField leaveOf m tag f c)
+whole-steps m tag f c = cond-case (Steps c) (eqb (tagAt m c) tag) (steps (at-leave (Took c) _ (need-takes m tag c))) (none-steps c)
 
 pub typed-field-steps : (m : List ℕ) (tag : ℕ) (c : Cursor) → Steps c (typedField m tag c)
 unfolding typedField
-typed-field-steps m tag c = tagged m tag c _
+typed-field-steps m tag = whole-steps m tag (typedOf m)
 
 pub any-field-steps : (m : List ℕ) (tag : ℕ) (c : Cursor) → Steps c (anyField m tag c)
 unfolding anyField
-any-field-steps m tag c = tagged m tag c _
+any-field-steps m tag = whole-steps m tag (anyOf m)
 
 pub sequence-field-steps : (m : List ℕ) (tag : ℕ) (what : Each) (c : Cursor) → Steps c (sequenceField m tag what c)
 unfolding sequenceField
-sequence-field-steps m tag what c = tagged m tag c _
+sequence-field-steps m tag what = whole-steps m tag (sequenceOf m what)
 
 -- ## PKIStatusInfo
 

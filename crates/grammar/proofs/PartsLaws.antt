@@ -1,11 +1,11 @@
 -- Laws of the shared grammar rules: each member of a SEQUENCE OF moves the cursor on, and a field with short lengths ends where they say.
 use Prim.Native.Nat.{ℕ, _+_, _-_, _<_, _≤_}
-use mathlib.Core.Path.{_≡_, refl, _∙_, ap}
+use mathlib.Core.Path.{_≡_, refl, sym, _∙_, ap}
 use mathlib.Core.Bool.{true, _&&_}
 use mathlib.Core.List.{List}
 use native.Mathlib.Nat.{add-zero, add-assoc}
 use native.Mathlib.Omega.{arith}
-use borrow.Author.Tests.{eq-eqb, eqb-true, lt-ltb, le-ltb, le-leb, lt-leb}
+use borrow.Author.Tests.{eq-eqb, ne-eqb, eqb-true, lt-ltb, le-ltb, le-leb, lt-leb}
 use lib.ListN.{length, take, drop, length-drop}
 use lib.Seq.{getD-take, getD-drop, length-take-le}
 use lib.Dec.{eqb}
@@ -16,8 +16,9 @@ use Rattle.der.proofs.OneForm.{short-read}
 use Rattle.grammar.specs.declared.cursor.Cursor.{Cursor}
 use Rattle.grammar.specs.declared.parts.Each.{Each}
 use Rattle.grammar.specs.declared.parts.Each.the-variants.{Text, Certificate, Info}
-use Rattle.grammar.specs.Cursor.{headIn, tagAt, pastOf, needOf, doneOf, enterOf}
-use Rattle.grammar.specs.Parts.{typedOf, oneOf, foundOf, fieldOf, pastField}
+use Rattle.grammar.specs.Code.{pastField}
+use Rattle.grammar.specs.Cursor.{headIn, tagAt, pastOf, needOf, noneOf, doneOf, enterOf}
+use Rattle.grammar.specs.Parts.{typedOf, oneOf, foundOf, optionalField, fieldOf}
 use Rattle.grammar.proofs.CursorLaws.{Moved, moved-need, moved-leave}
 
 pub moved-typed : (m : List ℕ) (c : Cursor) → Moved c (typedOf m c)
@@ -29,6 +30,16 @@ unfolding oneOf
 moved-one m Text c = moved-need m 0x0C c
 moved-one m Certificate c = moved-need m 0x30 c
 moved-one m Info c = moved-typed m c
+
+-- ## An optional field, read call by call
+
+module _ (m : List ℕ) (tag : ℕ) (c : Cursor) {t : ℕ} (next : t ≡ tagAt m c) where
+  -- its tag comes next: the element, into it, what is inside, nothing else, and out
+  pub optional-there : (out : Cursor → Cursor → Cursor) (f : Cursor → Cursor) → t ≡ tag → {o e i d r : Cursor} → o ≡ needOf m tag c → e ≡ enterOf o → i ≡ f e → d ≡ doneOf i → r ≡ out o d → r ≡ optionalField out m tag f c
+  optional-there out f same a b p q z = z ∙ rw (eq-eqb (tagAt m c) tag (sym next ∙ same), q, p, b, a) refl
+
+  pub optional-gone : (out : Cursor → Cursor → Cursor) (f : Cursor → Cursor) → (t ≡ tag → ⊥) → {r : Cursor} → r ≡ noneOf c → r ≡ optionalField out m tag f c
+  optional-gone out f other z = z ∙ rw (ne-eqb (tagAt m c) tag (λ (e : tagAt m c ≡ tag). other (next ∙ e))) refl
 
 -- ## A short length
 

@@ -1,10 +1,9 @@
 -- PKIBody (document 01, "The parts of a message"; RFC 9810 5.1.2, 5.3): a context tag 0 to 26, constructed, one element inside.
 use Prim.Native.Nat.{ℕ, _-_}
 use mathlib.Core.List.{List}
-use mathlib.Core.Bool.{Bool, true, false, cond, _||_}
+use mathlib.Core.Bool.{cond, _||_}
 use lib.Dec.{ltb, eqb}
 use Rattle.grammar.specs.declared.Span.{Span}
-use Rattle.grammar.specs.declared.Entry.{Entry}
 use Rattle.grammar.specs.declared.cursor.Cursor.{Cursor}
 use Rattle.grammar.specs.declared.parts.Each.the-variants.{Certificate}
 use Rattle.grammar.specs.declared.parts.Status.{Status}
@@ -15,7 +14,7 @@ use Rattle.grammar.specs.declared.pki_body.BodyRead.{BodyRead}
 use Rattle.grammar.specs.Cursor.{tagAt, faultAt, needOf, anyOf, maybeOf, doneOf, enterOf, leaveOf}
 use Rattle.grammar.specs.Span.{noSpan}
 use Rattle.grammar.specs.Parts.{foundSpan, wholeSpan, sequenceField, maybeText, statusOf}
-use Rattle.grammar.specs.Entries.{noEntry, entriesOf, onlyOf}
+use Rattle.grammar.specs.Entries.{noEntry, withStatus, withRequest, entriesOf, onlyOf}
 
 abbrev pub fromEntries : Cursor → Span → Entries → Contents
 fromEntries c pubs e = record { cur = c; entries = e .count; «ca_pubs» = pubs; entry = onlyOf e }
@@ -56,7 +55,7 @@ errorOf m c =
       cur = leaveOf s (doneOf (maybeText m (maybeOf m 0x02 (i .cur))));
       entries = 0;
       «ca_pubs» = noSpan;
-      entry = record { number = 0; «has_status» = i .given; status = i .value; «cert_hash» = noSpan; «hash_alg» = noSpan; certificate = noSpan; request = noSpan };
+      entry = withStatus i noEntry;
     }
 
 abbrev pub plain : Cursor → Contents
@@ -70,7 +69,7 @@ p10crOf m c =
       cur = e;
       entries = 0;
       «ca_pubs» = noSpan;
-      entry = record { number = 0; «has_status» = false; status = 0; «cert_hash» = noSpan; «hash_alg» = noSpan; certificate = noSpan; request = wholeSpan c e };
+      entry = withRequest (wholeSpan c e) noEntry;
     }
 
 -- 19 pkiconf: NULL. Other kinds: one well-formed element.

@@ -1,12 +1,11 @@
 -- A cursor over a message and the verbs that every grammar rule is made of. A fault (rule 5) sticks: each verb hands a faulty
 -- cursor on, and it goes on standing where the fault is.
 use Prim.Native.Nat.{ℕ, zero, suc, _+_, _-_}
-use mathlib.Core.List.{List, []}
+use mathlib.Core.List.{List}
 use mathlib.Core.Bool.{Bool, cond, _&&_, _||_}
 use lib.ListN.{length, getD, take, drop}
 use lib.Dec.{ltb, leb, eqb}
-use Rattle.der.specs.Head.{byte, headOf}
-use Rattle.der.specs.Code.{packedOf}
+use Rattle.der.specs.Head.{headOf}
 use Rattle.der.specs.Integer.{signed32}
 use Rattle.der.specs.declared.head.Head.{Head}
 use Rattle.der.specs.declared.head.Head.the-variants.{Bad, Whole}
@@ -37,14 +36,6 @@ pastOf c start len = record { at = c .at + start + len; end = c .end; from = c .
 abbrev pub ifTag : ℕ → Cursor → Head → Cursor
 ifTag tag c (Bad rule) = faultAt c
 ifTag tag c (Whole t start len) = cond (eqb t tag) (pastOf c start len) (faultAt c)
-
--- the same as one number, 0 where it is none
-abbrev pub packedIf : ℕ → Head → ℕ
-packedIf tag (Bad rule) = 0
-packedIf tag (Whole t start len) = cond (eqb t tag) (packedOf (Whole t start len)) 0
-
-unfoldable pub taggedOf : List ℕ → ℕ → ℕ → ℕ → ℕ
-taggedOf m at end tag = packedIf tag (headIn m at end)
 
 -- an element with this tag comes next
 unfoldable pub needOf : List ℕ → ℕ → Cursor → Cursor

@@ -1,8 +1,9 @@
 -- The entries of a body (document 01, "The parts of a message"; RFC 9810 5.3.4, 5.3.18 and RFC 4211 for CertReqMsg).
 use Prim.Native.Nat.{ℕ, _+_}
 use mathlib.Core.List.{List}
-use mathlib.Core.Bool.{Bool, true, false, cond}
+use mathlib.Core.Bool.{false, cond}
 use lib.Dec.{eqb}
+use Rattle.grammar.specs.declared.Span.{Span}
 use Rattle.grammar.specs.declared.Entry.{Entry}
 use Rattle.grammar.specs.declared.cursor.Cursor.{Cursor}
 use Rattle.grammar.specs.declared.parts.Status.{Status}
@@ -17,6 +18,22 @@ use Rattle.grammar.specs.Parts.{foundSpan, wholeSpan, foundOf, anyField,
 abbrev pub noEntry : Entry
 noEntry = record { number = 0; «has_status» = false; status = 0; «cert_hash» = noSpan; «hash_alg» = noSpan; certificate = noSpan; request = noSpan }
 
+-- Each of these sets a part of an entry and leaves the others: certReqId; the status; the hash and its algorithm; the certificate; the request.
+abbrev pub withNumber : ℕ → Entry → Entry
+withNumber n e = record { number = n; «has_status» = e .«has_status»; status = e .status; «cert_hash» = e .«cert_hash»; «hash_alg» = e .«hash_alg»; certificate = e .certificate; request = e .request }
+
+abbrev pub withStatus : Status → Entry → Entry
+withStatus i e = record { number = e .number; «has_status» = i .given; status = i .value; «cert_hash» = e .«cert_hash»; «hash_alg» = e .«hash_alg»; certificate = e .certificate; request = e .request }
+
+abbrev pub withHash : Span → Span → Entry → Entry
+withHash h a e = record { number = e .number; «has_status» = e .«has_status»; status = e .status; «cert_hash» = h; «hash_alg» = a; certificate = e .certificate; request = e .request }
+
+abbrev pub withCertificate : Span → Entry → Entry
+withCertificate s e = record { number = e .number; «has_status» = e .«has_status»; status = e .status; «cert_hash» = e .«cert_hash»; «hash_alg» = e .«hash_alg»; certificate = s; request = e .request }
+
+abbrev pub withRequest : Span → Entry → Entry
+withRequest s e = record { number = e .number; «has_status» = e .«has_status»; status = e .status; «cert_hash» = e .«cert_hash»; «hash_alg» = e .«hash_alg»; certificate = e .certificate; request = s }
+
 -- A request message: a SEQUENCE that begins with a SEQUENCE that begins with INTEGER certReqId; the rest generic.
 unfoldable pub requestOf : List ℕ → Cursor → Item
 requestOf m c =
@@ -25,7 +42,7 @@ requestOf m c =
     let n : Cursor = smallIntegerOf m (enterOf q) in
     record {
       cur = leaveOf s (leaveOf q n);
-      entry = record { number = valueOf m n; «has_status» = false; status = 0; «cert_hash» = noSpan; «hash_alg» = noSpan; certificate = noSpan; request = wholeSpan c s };
+      entry = withRequest (wholeSpan c s) (withNumber (valueOf m n) noEntry);
     }
 
 -- CertOrEncCert: [0] one certificate or [1] one element. The span is the plain certificate, or none.
@@ -57,7 +74,7 @@ responseOf m c =
     let k : Cursor = maybeKeyPair m (i .cur) in
     record {
       cur = leaveOf s (doneOf (maybeOf m 0x04 k));
-      entry = record { number = valueOf m n; «has_status» = i .given; status = i .value; «cert_hash» = noSpan; «hash_alg» = noSpan; certificate = foundSpan k; request = noSpan };
+      entry = withCertificate (foundSpan k) (withStatus i (withNumber (valueOf m n) noEntry));
     }
 
 -- CertStatus: OCTET STRING certHash, INTEGER certReqId, optional status info, optional [0] AlgorithmIdentifier hashAlg
@@ -70,7 +87,7 @@ certStatusOf m c =
     let a : Cursor = typedField m 0xA0 (i .cur) in
     record {
       cur = leaveOf s (doneOf a);
-      entry = record { number = valueOf m n; «has_status» = i .given; status = i .value; «cert_hash» = foundSpan h; «hash_alg» = foundSpan a; certificate = noSpan; request = noSpan };
+      entry = withHash (foundSpan h) (foundSpan a) (withStatus i (withNumber (valueOf m n) noEntry));
     }
 
 unfoldable pub entryOf : List ℕ → EntryKind → Cursor → Item

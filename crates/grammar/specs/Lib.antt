@@ -5,3 +5,4 @@ pub mod Header
 pub mod Entries
 pub mod Body
 pub mod Message
+pub mod Code

@@ -1,7 +1,6 @@
 -- PKIMessage by its grammar (document 01, "The parts of a message"; RFC 9810 5.1).
 use Prim.Native.Nat.{ℕ}
 use mathlib.Core.List.{List}
-use mathlib.Core.Bool.{Bool, true}
 use lib.ListN.{length}
 use Rattle.grammar.specs.declared.cursor.Cursor.{Cursor}
 use Rattle.grammar.specs.declared.parts.Each.the-variants.{Certificate}

@@ -1,6 +1,6 @@
 -- Grammar rules that several parts of a message share (document 01, "The parts of a message"; RFC 9810 appendix F).
 -- An optional part is recognised by its tag byte; its inside must then fit.
-use Prim.Native.Nat.{ℕ, _+_, _-_, _/_, _%_, _^_}
+use Prim.Native.Nat.{ℕ, _-_, _/_, _%_, _^_}
 use mathlib.Core.List.{List}
 use mathlib.Core.Bool.{Bool, true, false, cond, _||_}
 use lib.ListN.{length}
@@ -61,33 +61,25 @@ oneOf m Info = typedOf m
 unfoldable pub sequenceOf : List ℕ → Each → Cursor → Cursor
 sequenceOf m what c = sequenceBy m (oneOf m what) c
 
--- [n] OPTIONAL around one element with the tag `inner`: the span is what that one holds
+-- [n] OPTIONAL around what `inside` reads, and nothing else; `out` says which of the two has the span
+abbrev pub optionalField : (Cursor → Cursor → Cursor) → List ℕ → ℕ → (Cursor → Cursor) → Cursor → Cursor
+optionalField out m tag inside c =
+    let o : Cursor = needOf m tag c in
+    cond (eqb (tagAt m c) tag) (out o (doneOf (inside (enterOf o)))) (noneOf c)
+
+-- around one element with the tag `inner`: the span is what that one holds
 unfoldable pub fieldOf : List ℕ → ℕ → ℕ → Cursor → Cursor
-fieldOf m tag inner c =
-    let o : Cursor = needOf m tag c in
-    cond (eqb (tagAt m c) tag) (foundOf o (doneOf (needOf m inner (enterOf o)))) (noneOf c)
+fieldOf m tag inner c = optionalField foundOf m tag (needOf m inner) c
 
--- past it where both lengths are short, and it ends at `to`
-abbrev pub pastField : Cursor → ℕ → Cursor
-pastField c to = record { at = to; end = c .end; from = c .at + 4; to = to; rule = 0 }
-
--- [n] AlgorithmIdentifier OPTIONAL: the span is the AlgorithmIdentifier
+-- around an AlgorithmIdentifier; any element; a SEQUENCE of one or more: the span is what [n] holds, the whole element inside
 unfoldable pub typedField : List ℕ → ℕ → Cursor → Cursor
-typedField m tag c =
-    let o : Cursor = needOf m tag c in
-    cond (eqb (tagAt m c) tag) (leaveOf o (doneOf (typedOf m (enterOf o)))) (noneOf c)
+typedField m tag c = optionalField leaveOf m tag (typedOf m) c
 
--- [n] OPTIONAL around one element, whatever it is, which is the span
 unfoldable pub anyField : List ℕ → ℕ → Cursor → Cursor
-anyField m tag c =
-    let o : Cursor = needOf m tag c in
-    cond (eqb (tagAt m c) tag) (leaveOf o (doneOf (anyOf m (enterOf o)))) (noneOf c)
+anyField m tag c = optionalField leaveOf m tag (anyOf m) c
 
--- [n] SEQUENCE of one or more OPTIONAL: the span is the SEQUENCE
 unfoldable pub sequenceField : List ℕ → ℕ → Each → Cursor → Cursor
-sequenceField m tag what c =
-    let o : Cursor = needOf m tag c in
-    cond (eqb (tagAt m c) tag) (leaveOf o (doneOf (sequenceOf m what (enterOf o)))) (noneOf c)
+sequenceField m tag what c = optionalField leaveOf m tag (sequenceOf m what) c
 
 -- ## PKIStatusInfo: SEQUENCE of INTEGER status, optional free text, optional BIT STRING failInfo with no trailing zero bit
 

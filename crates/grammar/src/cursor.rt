@@ -6,7 +6,8 @@ use der::integer::signed32;
 ghost use mathlib.Core.Path.{_≡_};
 ghost use Prim.Native.Nat.{_+_, _-_, _^_, _<_};
 ghost use lib.ListN.{take, drop};
-ghost use Rattle.grammar.specs.Cursor.{taggedOf, tagAt, faultAt, pastOf, needOf, anyOf, noneOf, maybeOf, restOf, doneOf, enterOf, leaveOf, contentOf, valueOf, smallIntegerOf, moreAt};
+ghost use Rattle.grammar.specs.Code.{taggedOf};
+ghost use Rattle.grammar.specs.Cursor.{tagAt, faultAt, pastOf, needOf, anyOf, noneOf, maybeOf, restOf, doneOf, enterOf, leaveOf, contentOf, valueOf, smallIntegerOf, moreAt};
 
 // Where the next element is sought and where its parent ends; what the last one held; and the rule that is broken where the
 // cursor stands, 0 while all is right.

@@ -67,16 +67,9 @@ fn request(m: &[u8], c: Cursor) -> Item
     let q = need(m, enter(s), 0x30);
     let n = small_integer(m, enter(q));
     let cur = leave(s, leave(q, n));
-    let absent = span_from(0, 0);
-    let entry = Entry {
-        number: value(m, n),
-        has_status: false,
-        status: 0,
-        cert_hash: absent,
-        hash_alg: absent,
-        certificate: absent,
-        request: whole_span(c, s),
-    };
+    let mut entry = no_entry();
+    entry.number = value(m, n);
+    entry.request = whole_span(c, s);
     Item { cur, entry }
 }
 
@@ -125,16 +118,11 @@ fn response(m: &[u8], c: Cursor) -> Item
     let k = maybe_key_pair(m, i.cur);
     let r = maybe(m, k, 0x04);
     let cur = leave(s, done(r));
-    let absent = span_from(0, 0);
-    let entry = Entry {
-        number: value(m, n),
-        has_status: i.given,
-        status: i.value,
-        cert_hash: absent,
-        hash_alg: absent,
-        certificate: found_span(k),
-        request: absent,
-    };
+    let mut entry = no_entry();
+    entry.number = value(m, n);
+    entry.has_status = i.given;
+    entry.status = i.value;
+    entry.certificate = found_span(k);
     Item { cur, entry }
 }
 
@@ -148,16 +136,12 @@ fn cert_status(m: &[u8], c: Cursor) -> Item
     let i = maybe_status(m, n);
     let a = typed_field(m, i.cur, 0xA0);
     let cur = leave(s, done(a));
-    let absent = span_from(0, 0);
-    let entry = Entry {
-        number: value(m, n),
-        has_status: i.given,
-        status: i.value,
-        cert_hash: found_span(h),
-        hash_alg: found_span(a),
-        certificate: absent,
-        request: absent,
-    };
+    let mut entry = no_entry();
+    entry.number = value(m, n);
+    entry.has_status = i.given;
+    entry.status = i.value;
+    entry.cert_hash = found_span(h);
+    entry.hash_alg = found_span(a);
     Item { cur, entry }
 }
 

@@ -23,9 +23,10 @@ ghost use mathlib.Core.Bool.{_&&_};
 ghost use Prim.Native.Nat.{_+_, _<_, _≤_};
 ghost use lib.Dec.{eqb};
 ghost use Rattle.der.specs.Head.{tagOk};
+ghost use Rattle.grammar.specs.Code.{pastField};
 ghost use Rattle.grammar.specs.Cursor.{needOf, doneOf, enterOf};
 ghost use Rattle.grammar.specs.Span.{spanFrom};
-ghost use Rattle.grammar.specs.Parts.{foundSpan, wholeSpan, outerSpan, foundOf, typedOf, allBy, sequenceBy, sequenceOf, fieldOf, pastField, typedField, anyField, sequenceField, maybeText, lastBitSet, failInfoOf, statusOf, maybeStatus};
+ghost use Rattle.grammar.specs.Parts.{foundSpan, wholeSpan, outerSpan, foundOf, typedOf, allBy, sequenceBy, sequenceOf, fieldOf, typedField, anyField, sequenceField, maybeText, lastBitSet, failInfoOf, statusOf, maybeStatus};
 
 // What a SEQUENCE OF holds.
 pub enum Each {

@@ -99,20 +99,13 @@ fn error(m: &[u8], c: Cursor) -> Contents
     let n = maybe(m, i.cur, 0x02);
     let t = maybe_text(m, n);
     let cur = leave(s, done(t));
-    let absent = span_from(0, 0);
-    let entry = Entry {
-        number: 0,
-        has_status: i.given,
-        status: i.value,
-        cert_hash: absent,
-        hash_alg: absent,
-        certificate: absent,
-        request: absent,
-    };
+    let mut entry = no_entry();
+    entry.has_status = i.given;
+    entry.status = i.value;
     Contents {
         cur,
         entries: 0,
-        ca_pubs: absent,
+        ca_pubs: span_from(0, 0),
         entry,
     }
 }
@@ -134,20 +127,12 @@ fn p10cr(m: &[u8], c: Cursor) -> Contents
     ensures { λ r. ⌜ r ≡ p10crOf (now (m .entry)) c ⌝ }
 {
     let e = any(m, c);
-    let absent = span_from(0, 0);
-    let entry = Entry {
-        number: 0,
-        has_status: false,
-        status: 0,
-        cert_hash: absent,
-        hash_alg: absent,
-        certificate: absent,
-        request: whole_span(c, e),
-    };
+    let mut entry = no_entry();
+    entry.request = whole_span(c, e);
     Contents {
         cur: e,
         entries: 0,
-        ca_pubs: absent,
+        ca_pubs: span_from(0, 0),
         entry,
     }
 }

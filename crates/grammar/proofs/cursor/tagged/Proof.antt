@@ -1,7 +1,8 @@
 use Rattle.der.proofs.Auto.{tests}
 use mathlib.Core.Path.{sym}
 use Rattle.grammar.proofs.CursorLaws.{tagged-same, tagged-other}
-use Rattle.grammar.specs.Cursor.{taggedOf, headIn}
+use Rattle.grammar.specs.Code.{taggedOf}
+use Rattle.grammar.specs.Cursor.{headIn}
 use Rattle.grammar.proofs.cursor.tagged.Statement.{statement}
 use Rattle.grammar.proofs.cursor.tagged.Tie as tie
 

@@ -9,8 +9,8 @@ unfolding certStatusOf
 returns c =
     let found-span = c .before in
     let value = found-span .before in
-    let span-from = value .before in
-    let leave = span-from .before in
+    let no-entry = value .before in
+    let leave = no-entry .before in
     let done = leave .before in
     let typed-field = done .before in
     let maybe-status = typed-field .before in
@@ -22,7 +22,7 @@ returns c =
       c .found-span2 .ensures,
       found-span .found-span .ensures,
       ← value .value .ensures,
-      span-from .span-from .ensures,
+      no-entry .no-entry .ensures,
       ← leave .leave .ensures,
       ← done .done .ensures,
       ← typed-field .typed-field .ensures,

@@ -8,8 +8,8 @@ returns : tie.Need-returns
 unfolding requestOf
 returns c =
     let value = c .before in
-    let span-from = value .before in
-    let leave2 = span-from .before in
+    let no-entry = value .before in
+    let leave2 = no-entry .before in
     let leave = leave2 .before in
     let small = leave .before in
     let enter2 = small .before in
@@ -19,7 +19,7 @@ returns c =
     simp (
       c .whole-span .ensures,
       ← value .value .ensures,
-      span-from .span-from .ensures,
+      no-entry .no-entry .ensures,
       ← leave2 .leave2 .ensures,
       ← leave .leave .ensures,
       ← small .small-integer .ensures,

@@ -8,8 +8,8 @@ returns : tie.Need-returns
 unfolding responseOf
 returns c =
     let value = c .before in
-    let span-from = value .before in
-    let leave = span-from .before in
+    let no-entry = value .before in
+    let leave = no-entry .before in
     let done = leave .before in
     let maybe = done .before in
     let maybe-key-pair = maybe .before in
@@ -20,7 +20,7 @@ returns c =
     simp (
       c .found-span .ensures,
       ← value .value .ensures,
-      span-from .span-from .ensures,
+      no-entry .no-entry .ensures,
       ← leave .leave .ensures,
       ← done .done .ensures,
       ← maybe .maybe .ensures,

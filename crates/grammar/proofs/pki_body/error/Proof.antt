@@ -7,7 +7,8 @@ use Rattle.grammar.proofs.pki_body.error.Tie as tie
 returns : tie.Need-returns
 unfolding errorOf
 returns c =
-    let leave = c .before in
+    let no-entry = c .before in
+    let leave = no-entry .before in
     let done = leave .before in
     let maybe-text = done .before in
     let maybe = maybe-text .before in
@@ -16,6 +17,7 @@ returns c =
     let need = enter .before in
     simp (
       c .span-from .ensures,
+      no-entry .no-entry .ensures,
       ← leave .leave .ensures,
       ← done .done .ensures,
       ← maybe-text .maybe-text .ensures,
@@ -27,6 +29,7 @@ returns c =
 
 pub error-spec : {M : Type 1} → statement M
 error-spec = tie.close (tie.spec
+    (λ c κs. search tests)
     (λ c κs. search tests)
     (λ c κs. search tests)
     (λ c κs. search tests)

@@ -9,4 +9,5 @@ p10cr-spec = tie.close (tie.spec
     (λ c κs. search tests)
     (λ c κs. search tests)
     (λ c κs. search tests)
-    (λ c. search (tests, c .whole-span .ensures, c .before .span-from .ensures, ← c .before .before .any .ensures)))
+    (λ c κs. search tests)
+    (λ c. search (tests, c .span-from .ensures, c .before .whole-span .ensures, c .before .before .no-entry .ensures, ← c .before .before .before .any .ensures)))
