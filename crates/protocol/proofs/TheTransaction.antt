@@ -5,16 +5,22 @@ use mathlib.Core.Option.{Option, none, some}
 use mathlib.Core.Path.{_≡_, refl, sym, _∙_, subst}
 use native.Mathlib.Decide.{ℕ-discrete}
 use native.Mathlib.Omega.{arith}
-use lib.ListN.{getElem?}
+use lib.ListN.{getElem?, replicate}
+use Rattle.protocol.specs.declared.Board.{Board}
+use Rattle.protocol.specs.declared.Nonce.{Nonce}
+use Rattle.protocol.specs.declared.RegistrarInput.{RegistrarInput}
 use Rattle.protocol.specs.declared.TransactionId.{TransactionId}
 use Rattle.protocol.specs.declared.Transaction.{Transaction}
 use Rattle.protocol.specs.declared.TransactionTable.{TransactionTable}
 use Rattle.protocol.specs.declared.RegistrarAnswer.{RegistrarAnswer}
+use Rattle.protocol.specs.declared.TransactionState.the-variants.{Asked}
 use Rattle.protocol.specs.Table.{lookup, slotOf}
 use Rattle.protocol.specs.Run.{Call, run}
 use Rattle.protocol.specs.Promises.{AtMostOne}
 use Rattle.protocol.specs.Slots.{HoldsAt, OnlyAt, Becomes}
 use Rattle.protocol.specs.TheTransaction.{NotHeld, TheTransaction}
+use Rattle.protocol.specs.Confirmation.{RepeatedAnswer}
+use Rattle.protocol.specs.Request.{Opened}
 use Rattle.protocol.proofs.Tests.{none-some, some-some}
 use Rattle.protocol.proofs.RegistrarStates.{in-use}
 use Rattle.protocol.proofs.Lookup.{isFor-make, place-found}
@@ -73,3 +79,21 @@ one-answer t i r x a b g h s o =
     let p : a .slot .0 ≡ b .slot .0 = omega (arith, m, n) in
     let u : a .table .transactions ≡ b .table .transactions = same-table t (a .slot .0) x (a .table) (b .table) (g .only) (subst (λ (q : ℕ). OnlyAt t q x (b .table)) (sym p) (h .only)) in
     λ j. record { outcome = (g .done ∙ sym (h .done)) j; fault = (g .fault ∙ sym (h .fault)) j; slot = record { 0 = p j }; sends = s j; outgoing = o j; table = record { transactions = u j } }
+
+-- the same of "again"
+pub one-repeat : (t : TransactionTable) (d : RegistrarInput) (r : Transaction) (i : TransactionId) (n : Nonce) (a b : RegistrarAnswer) → RepeatedAnswer t d r i n a → RepeatedAnswer t d r i n b → a ≡ b
+one-repeat t d r i n a b g h =
+    let u = g .held .first (b .slot .0) r (h .held .holds) in
+    let v = h .held .first (a .slot .0) r (g .held .holds) in
+    let p : a .slot .0 ≡ b .slot .0 = omega (arith, u, v) in
+    λ j. record { outcome = (g .again ∙ sym (h .again)) j; fault = (g .fault ∙ sym (h .fault)) j; slot = record { 0 = p j }; sends = (g .sends .0 ∙ sym (h .sends .0)) j; outgoing = (g .sends .1 ∙ sym (h .sends .1)) j; table = (g .table ∙ sym (h .table)) j }
+
+-- and of an opening
+pub one-opening : (t : TransactionTable) (kind : ℕ) (c : Board) (i : TransactionId) (n : Nonce) (a b : RegistrarAnswer) → Opened t kind c i n a → Opened t kind c i n b → a ≡ b
+one-opening t kind c i n a b g h =
+    let u = g .lowest (b .slot .0) (h .wasFree .0) (h .wasFree .1) (h .wasFree .2) in
+    let v = h .lowest (a .slot .0) (g .wasFree .0) (g .wasFree .1) (g .wasFree .2) in
+    let p : a .slot .0 ≡ b .slot .0 = omega (arith, u, v) in
+    let x : Transaction = record { id = i; board = c; kind = kind; taken = n; sent = record { bytes = replicate 16 0 }; hash = record { bytes = replicate 32 0 }; state = Asked } in
+    let s : a .table .transactions ≡ b .table .transactions = same-table t (a .slot .0) x (a .table) (b .table) (g .asked) (subst (λ (q : ℕ). OnlyAt t q x (b .table)) (sym p) (h .asked)) in
+    λ j. record { outcome = (g .done ∙ sym (h .done)) j; fault = (g .fault ∙ sym (h .fault)) j; slot = record { 0 = p j }; sends = (g .silently .0 ∙ sym (h .silently .0)) j; outgoing = (g .silently .1 ∙ sym (h .silently .1)) j; table = record { transactions = s j } }
