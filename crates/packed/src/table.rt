@@ -6,6 +6,7 @@ use crate::bytes::put_1;
 use crate::bytes::put_2;
 use crate::bytes::put_16;
 use crate::bytes::put_32;
+use crate::places;
 use protocol::Board;
 use protocol::Hash;
 use protocol::Nonce;
@@ -21,7 +22,7 @@ ghost use Rattle.protocol.specs.Table.{capacity};
 ghost use Rattle.packed.specs.Bytes.{Placed};
 ghost use Rattle.packed.specs.Table.{transactionStateNumber, transactionStateOf, transactionBytes, packTransaction, transactionOf, tableBytes, packRows, statesGood, tableOf, noTable, unpackTable, packTableIn};
 
-pub const TRANSACTION_BYTES: usize = 84;
+pub const TRANSACTION_BYTES: usize = places::TRANSACTION_END;
 
 pub const TABLE_BYTES: usize = TransactionTable::CAPACITY * TRANSACTION_BYTES;
 
@@ -64,12 +65,12 @@ fn get_transaction(bytes: &[u8], at: usize) -> Transaction
     ensures { λ r. ⌜ r ≡ transactionOf (drop at (now (bytes .entry))) ⌝ }
 {
     let id = get_16(bytes, at);
-    let board = get_2(bytes, at + 16);
-    let kind = bytes[at + 18];
-    let taken = get_16(bytes, at + 19);
-    let sent = get_16(bytes, at + 35);
-    let hash = get_32(bytes, at + 51);
-    let state = state_of(bytes[at + 83]);
+    let board = get_2(bytes, at + places::TRANSACTION_BOARD);
+    let kind = bytes[at + places::TRANSACTION_KIND];
+    let taken = get_16(bytes, at + places::TRANSACTION_TAKEN);
+    let sent = get_16(bytes, at + places::TRANSACTION_SENT);
+    let hash = get_32(bytes, at + places::TRANSACTION_HASH);
+    let state = state_of(bytes[at + places::TRANSACTION_STATE]);
     Transaction {
         id: TransactionId { bytes: id },
         board: Board(board),
@@ -92,12 +93,12 @@ fn put_transaction(bytes: &mut [u8], at: usize, t: Transaction)
     let board = t.board;
     let state = t.state;
     put_16(bytes, at, id);
-    put_2(bytes, at + 16, board.0);
-    put_1(bytes, at + 18, t.kind);
-    put_16(bytes, at + 19, taken);
-    put_16(bytes, at + 35, sent);
-    put_32(bytes, at + 51, hash);
-    put_1(bytes, at + 83, state_number(state));
+    put_2(bytes, at + places::TRANSACTION_BOARD, board.0);
+    put_1(bytes, at + places::TRANSACTION_KIND, t.kind);
+    put_16(bytes, at + places::TRANSACTION_TAKEN, taken);
+    put_16(bytes, at + places::TRANSACTION_SENT, sent);
+    put_32(bytes, at + places::TRANSACTION_HASH, hash);
+    put_1(bytes, at + places::TRANSACTION_STATE, state_number(state));
 }
 
 // Whether each state byte is a state.
@@ -108,7 +109,7 @@ fn states_good(bytes: &[u8]) -> bool
     let mut i: usize = 0;
     let mut at: usize = 0;
     while i < TransactionTable::CAPACITY {
-        if bytes[at + 83] >= 7 {
+        if bytes[at + places::TRANSACTION_STATE] >= 7 {
             return false;
         }
         i += 1;

@@ -11,6 +11,7 @@ unfolding packStatus
 put-status-spec =
     tie.close
     (tie.spec
+    (λ c. search needs)
     (λ c κs. search needs)
     (λ c. search needs)
     (λ c κs. search needs)
