@@ -27,10 +27,17 @@ put-transaction-spec =
     (λ c κs. search needs)
     (λ c. search needs)
     (λ c.
-    next (c .before .before .before .before .before .before .before .before .before .before .before .before .before .before .before .before .before .before .before .before .before .before .before .before .before .before .before .put-16 .ensures) (omega arith) (
-    next (c .before .before .before .before .before .before .before .before .before .before .before .before .before .before .before .before .before .before .before .before .before .before .before .put-2 .ensures) (omega arith) (
-    next (c .before .before .before .before .before .before .before .before .before .before .before .before .before .before .before .before .before .before .before .put-1 .ensures) (omega arith) (
-    next (c .before .before .before .before .before .before .before .before .before .before .before .before .before .before .before .put-162 .ensures) (omega arith) (
-    next (c .before .before .before .before .before .before .before .before .before .before .before .put-163 .ensures) (omega arith) (
-    next (c .before .before .before .before .before .before .before .put-32 .ensures) (omega arith) (
-    rw (c .before .before .before .state-number .ensures) at (c .before .before .put-12 .ensures)))))))))
+    let state = c .before .before in
+    let hash = state .before .before .before .before .before in
+    let sent = hash .before .before .before .before in
+    let taken = sent .before .before .before .before in
+    let kind = taken .before .before .before .before in
+    let board = kind .before .before .before .before in
+    let id = board .before .before .before .before in
+    next (id .put-16 .ensures) (omega arith) (
+    next (board .put-2 .ensures) (omega arith) (
+    next (kind .put-1 .ensures) (omega arith) (
+    next (taken .put-162 .ensures) (omega arith) (
+    next (sent .put-163 .ensures) (omega arith) (
+    next (hash .put-32 .ensures) (omega arith) (
+    rw (state .before .state-number .ensures) at (state .put-12 .ensures)))))))))
