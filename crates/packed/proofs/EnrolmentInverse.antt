@@ -12,11 +12,11 @@ use Rattle.protocol.specs.declared.Enrolment.{Enrolment}
 use Rattle.protocol.specs.declared.EnrolmentState.{EnrolmentState}
 use Rattle.protocol.specs.declared.EnrolmentState.the-variants.{Asked, Confirming, Declining, Sure, Declined, Failed, Unsettled}
 use Rattle.packed.specs.declared.enrolment.UnpackedEnrolment.{UnpackedEnrolment}
-use Rattle.packed.specs.Places.{idBytes, nonceBytes, hashBytes, enrolmentIdAt, enrolmentKindAt, enrolmentLastAt, enrolmentTakenAt, enrolmentHashAt, enrolmentStateAt}
+use Rattle.packed.specs.Places.{idBytes, nonceBytes, hashBytes, enrolmentIdAt, enrolmentLastAt, enrolmentTakenAt, enrolmentHashAt, enrolmentStateAt}
 use Rattle.packed.specs.Enrolment.{enrolmentStateNumber, enrolmentStateOf, enrolmentBytes, packEnrolment, enrolmentOf, unpackEnrolment, EnrolmentSized}
 use Rattle.packed.proofs.Tests.{both}
-use Rattle.packed.proofs.Parts.{part-length, one}
-use Rattle.packed.proofs.FieldLaws.{Field, Bytes, Byte, AllFit, AllRead, read-back, joined-length, packed-again}
+use Rattle.packed.proofs.Parts.{part-length}
+use Rattle.packed.proofs.FieldLaws.{Field, Bytes, Byte, AllFit, AllRead, read-back, joined-length, made-again}
 
 -- ## A state
 
@@ -79,7 +79,7 @@ state-read x s h = cc
 
 module _ (x : Enrolment) (z : EnrolmentSized x) where
   all-fit : AllFit (fields x)
-  all-fit = (z .id, (tt, (z .last, (z .taken, (z .hash, (tt, tt))))))
+  all-fit = search
 
   packed-read : AllRead 0 (fields x) (packEnrolment x)
   unfolding packEnrolment
@@ -101,25 +101,7 @@ module _ (x : Enrolment) (z : EnrolmentSized x) where
 enrolment-again : (s : List ℕ) → enrolmentBytes ≤ length s → getD s enrolmentStateAt 0 < 7 → packEnrolment (enrolmentOf s) ≡ take enrolmentBytes s
 unfolding packEnrolment enrolmentOf
 enrolment-again s h n =
-    packed-again (fields (enrolmentOf s)) 0 s (
-      refl,
-      (
-        one s enrolmentKindAt (omega arith) refl,
-        (
-          refl,
-          (
-            refl,
-            (
-              refl,
-              (
-                one s enrolmentStateAt (omega arith) (number-of (getD s enrolmentStateAt 0) n),
-                tt,
-              ),
-            ),
-          ),
-        ),
-      ),
-    )
+    made-again (fields (enrolmentOf s)) 0 s (omega arith) (search (number-of (getD s enrolmentStateAt 0) n))
 
 pub pack-unpacked : (s : List ℕ) → unpackEnrolment s .ok ≡ true → packEnrolment (unpackEnrolment s .enrolment) ≡ s
 unfolding unpackEnrolment

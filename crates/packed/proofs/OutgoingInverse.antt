@@ -23,7 +23,7 @@ fields o =
 
 module _ (o : Outgoing) (z : OutgoingSized o) where
   all-fit : AllFit (fields o)
-  all-fit = (tt, (z .id, (z .sender, (tt, (z .recip, (tt, (tt, (z .hash, (tt, tt)))))))))
+  all-fit = search
 
   all-are : (rest : List ℕ) → packOutgoing o ++ rest ≡ joined (fields o) rest
   unfolding packNames packStatus

@@ -16,12 +16,12 @@ use Rattle.protocol.specs.declared.TransactionTable.{TransactionTable}
 use Rattle.protocol.specs.Table.{capacity}
 use Rattle.packed.specs.declared.table.UnpackedTable.{UnpackedTable}
 use Rattle.packed.specs.Bytes.{AllBytes}
-use Rattle.packed.specs.Places.{idBytes, nonceBytes, hashBytes, transactionIdAt, transactionBoardAt, transactionKindAt, transactionTakenAt, transactionSentAt, transactionHashAt, transactionStateAt}
+use Rattle.packed.specs.Places.{idBytes, nonceBytes, hashBytes, transactionIdAt, transactionTakenAt, transactionSentAt, transactionHashAt, transactionStateAt}
 use Rattle.packed.specs.Table.{transactionStateNumber, transactionStateOf, transactionBytes, packTransaction, transactionOf, tableBytes, packRows, rowsOf, statesGood, packTable, unpackTable, TransactionSized, AllSized, TableSized}
 use Rattle.packed.proofs.Tests.{both}
-use Rattle.packed.proofs.Parts.{bytes-drop, part-length, one, two}
+use Rattle.packed.proofs.Parts.{bytes-drop, part-length}
 use Rattle.packed.proofs.Rows.{length-rows}
-use Rattle.packed.proofs.FieldLaws.{Field, Bytes, Byte, Two, joined, AllFit, AllRead, read-back, joined-length, packed-again}
+use Rattle.packed.proofs.FieldLaws.{Field, Bytes, Byte, Two, joined, AllFit, AllRead, read-back, joined-length, made-again}
 
 -- ## A state
 
@@ -69,7 +69,7 @@ fields t =
     ∷ []
 
 all-fit : (t : Transaction) → TransactionSized t → AllFit (fields t)
-all-fit t z = (z .id, (tt, (tt, (z .taken, (z .sent, (z .hash, (tt, tt)))))))
+all-fit t z = search
 
 all-are : (t : Transaction) (rest : List ℕ) → packTransaction t ++ rest ≡ joined (fields t) rest
 unfolding packTransaction
@@ -130,28 +130,7 @@ unpack-packed t z =
 transaction-again : (s : List ℕ) → AllBytes s → transactionBytes ≤ length s → getD s transactionStateAt 0 < 7 → packTransaction (transactionOf s) ≡ take transactionBytes s
 unfolding packTransaction transactionOf
 transaction-again s b h n =
-    packed-again (fields (transactionOf s)) 0 s (
-      refl,
-      (
-        two s transactionBoardAt b (omega arith),
-        (
-          one s transactionKindAt (omega arith) refl,
-          (
-            refl,
-            (
-              refl,
-              (
-                refl,
-                (
-                  one s transactionStateAt (omega arith) (number-of (getD s transactionStateAt 0) n),
-                  tt,
-                ),
-              ),
-            ),
-          ),
-        ),
-      ),
-    )
+    made-again (fields (transactionOf s)) 0 s h (refl, ((refl, b), (refl, (refl, (refl, (refl, (number-of _ n, tt)))))))
 
 rows-again : (n : ℕ) (s : List ℕ) → AllBytes s → n * transactionBytes ≤ length s → statesGood n s ≡ true → packRows (rowsOf n s) ≡ take (n * transactionBytes) s
 unfolding packRows rowsOf statesGood
