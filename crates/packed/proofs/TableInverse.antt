@@ -1,8 +1,8 @@
 -- Packing and unpacking a table are inverse to each other.
 use Prim.Native.Nat.{ℕ, zero, suc, _+_, _*_, _<_, _≤_}
-use mathlib.Core.List.{List, [], _∷_, _++_, append-assoc}
+use mathlib.Core.List.{List, [], _∷_, _++_, append-nil, append-assoc}
 use mathlib.Core.Bool.{true}
-use mathlib.Core.Path.{_≡_, refl, _∙_, ap}
+use mathlib.Core.Path.{_≡_, refl, sym, _∙_, ap}
 use native.Mathlib.Omega.{arith}
 use borrow.Author.Tests.{lt-ltb, eq-eqb, ltb-true, eqb-true}
 use lib.Dec.{eqb, ltb}
@@ -17,7 +17,7 @@ use Rattle.protocol.specs.Table.{capacity}
 use Rattle.packed.specs.declared.table.UnpackedTable.{UnpackedTable}
 use Rattle.packed.specs.Bytes.{AllBytes}
 use Rattle.packed.specs.Places.{idBytes, nonceBytes, hashBytes, transactionIdAt, transactionTakenAt, transactionSentAt, transactionHashAt, transactionStateAt}
-use Rattle.packed.specs.Table.{transactionStateNumber, transactionStateOf, transactionBytes, packTransaction, transactionOf, tableBytes, packRows, rowsOf, statesGood, packTable, unpackTable, TransactionSized, AllSized, TableSized}
+use Rattle.packed.specs.Table.{transactionStateNumber, transactionStateOf, transactionBytes, packRequest, packProgress, packTransaction, transactionOf, tableBytes, packRows, rowsOf, statesGood, packTable, unpackTable, TransactionSized, AllSized, TableSized}
 use Rattle.packed.proofs.Tests.{both}
 use Rattle.packed.proofs.Parts.{bytes-drop, part-length}
 use Rattle.packed.proofs.Rows.{length-rows}
@@ -72,8 +72,11 @@ all-fit : (t : Transaction) → TransactionSized t → AllFit (fields t)
 all-fit t z = search
 
 all-are : (t : Transaction) (rest : List ℕ) → packTransaction t ++ rest ≡ joined (fields t) rest
-unfolding packTransaction
+unfolding packRequest packProgress
 all-are t rest = simp append-assoc
+
+packed-is : (t : Transaction) → packTransaction t ≡ joined (fields t) []
+packed-is t = sym (append-nil (packTransaction t)) ∙ all-are t []
 
 is-read : (t : Transaction) (s : List ℕ) → AllRead 0 (fields t) s → transactionOf s ≡ t
 unfolding transactionOf
@@ -96,8 +99,7 @@ module _ (t : Transaction) (z : TransactionSized t) where
   packed-read rest = rw (all-are t rest) (read-back (fields t) (all-fit t z) rest)
 
   pub packed-length : length (packTransaction t) ≡ transactionBytes
-  unfolding packTransaction
-  packed-length = joined-length (fields t) (all-fit t z) []
+  packed-length = ap length (packed-is t) ∙ joined-length (fields t) (all-fit t z) []
 
 rows-length : (ts : List Transaction) → AllSized ts → length (packRows ts) ≡ length ts * transactionBytes
 unfolding packRows
@@ -128,9 +130,9 @@ unpack-packed t z =
 -- ## Packing what was unpacked
 
 transaction-again : (s : List ℕ) → AllBytes s → transactionBytes ≤ length s → getD s transactionStateAt 0 < 7 → packTransaction (transactionOf s) ≡ take transactionBytes s
-unfolding packTransaction transactionOf
+unfolding transactionOf
 transaction-again s b h n =
-    made-again (fields (transactionOf s)) 0 s h (refl, ((refl, b), (refl, (refl, (refl, (refl, (number-of _ n, tt)))))))
+    packed-is (transactionOf s) ∙ made-again (fields (transactionOf s)) 0 s h (refl, ((refl, b), (refl, (refl, (refl, (refl, (number-of _ n, tt)))))))
 
 rows-again : (n : ℕ) (s : List ℕ) → AllBytes s → n * transactionBytes ≤ length s → statesGood n s ≡ true → packRows (rowsOf n s) ≡ take (n * transactionBytes) s
 unfolding packRows rowsOf statesGood

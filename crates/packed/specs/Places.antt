@@ -74,6 +74,10 @@ transactionStateAt = transactionHashAt + hashBytes
 abbrev pub transactionEnd : ℕ
 transactionEnd = transactionStateAt + stateBytes
 
+-- its part from "taken" on
+abbrev pub progressPartBytes : ℕ
+progressPartBytes = transactionEnd - transactionTakenAt
+
 -- ## An enrolment
 
 abbrev pub enrolmentIdAt : ℕ

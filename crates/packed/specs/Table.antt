@@ -40,15 +40,23 @@ transactionStateOf n =
 abbrev pub transactionBytes : ℕ
 transactionBytes = transactionEnd
 
-unfoldable pub packTransaction : Transaction → List ℕ
-packTransaction t =
+-- id, board and kind
+unfoldable pub packRequest : Transaction → List ℕ
+packRequest t =
     t .id .bytes ++ (
     twoBytes (t .board .0) ++ (
-    (t .kind ∷ []) ++ (
+    t .kind ∷ []))
+
+-- nonces, hash and state
+unfoldable pub packProgress : Transaction → List ℕ
+packProgress t =
     t .taken .bytes ++ (
     t .sent .bytes ++ (
     t .hash .bytes ++ (
-    transactionStateNumber (t .state) ∷ []))))))
+    transactionStateNumber (t .state) ∷ [])))
+
+abbrev pub packTransaction : Transaction → List ℕ
+packTransaction t = packRequest t ++ packProgress t
 
 -- from the first bytes of a string
 unfoldable pub transactionOf : List ℕ → Transaction

@@ -20,7 +20,8 @@ ghost use lib.Dec.{eqb};
 ghost use lib.ListN.{length, drop};
 ghost use Rattle.protocol.specs.Table.{capacity};
 ghost use Rattle.packed.specs.Bytes.{Placed};
-ghost use Rattle.packed.specs.Table.{transactionStateNumber, transactionStateOf, transactionBytes, packTransaction, transactionOf, tableBytes, packRows, statesGood, tableOf, noTable, unpackTable, packTableIn};
+ghost use Rattle.packed.specs.Places.{transactionTakenAt, progressPartBytes};
+ghost use Rattle.packed.specs.Table.{transactionStateNumber, transactionStateOf, transactionBytes, packRequest, packProgress, packTransaction, transactionOf, tableBytes, packRows, statesGood, tableOf, noTable, unpackTable, packTableIn};
 
 pub const TRANSACTION_BYTES: usize = places::TRANSACTION_END;
 
@@ -82,23 +83,39 @@ fn get_transaction(bytes: &[u8], at: usize) -> Transaction
     }
 }
 
-fn put_transaction(bytes: &mut [u8], at: usize, t: Transaction)
+// Id, board and kind.
+fn put_request(bytes: &mut [u8], at: usize, t: Transaction)
     requires { ⌜ at + transactionBytes ≤ length (now bytes) ⌝ }
-    ensures { λ _. ⌜ Placed at transactionBytes (packTransaction t) (now (bytes .entry)) (now (bytes .exit)) ⌝ }
+    ensures { λ _. ⌜ Placed at transactionTakenAt (packRequest t) (now (bytes .entry)) (now (bytes .exit)) ⌝ }
 {
     let id = t.id.bytes;
-    let taken = t.taken.bytes;
-    let sent = t.sent.bytes;
-    let hash = t.hash.bytes;
     let board = t.board;
-    let state = t.state;
     put_16(bytes, at, id);
     put_2(bytes, at + places::TRANSACTION_BOARD, board.0);
     put_1(bytes, at + places::TRANSACTION_KIND, t.kind);
+}
+
+// Nonces, hash and state, of the transaction that starts at the offset.
+fn put_progress(bytes: &mut [u8], at: usize, t: Transaction)
+    requires { ⌜ at + transactionBytes ≤ length (now bytes) ⌝ }
+    ensures { λ _. ⌜ Placed (at + transactionTakenAt) progressPartBytes (packProgress t) (now (bytes .entry)) (now (bytes .exit)) ⌝ }
+{
+    let taken = t.taken.bytes;
+    let sent = t.sent.bytes;
+    let hash = t.hash.bytes;
+    let state = t.state;
     put_16(bytes, at + places::TRANSACTION_TAKEN, taken);
     put_16(bytes, at + places::TRANSACTION_SENT, sent);
     put_32(bytes, at + places::TRANSACTION_HASH, hash);
     put_1(bytes, at + places::TRANSACTION_STATE, state_number(state));
+}
+
+fn put_transaction(bytes: &mut [u8], at: usize, t: Transaction)
+    requires { ⌜ at + transactionBytes ≤ length (now bytes) ⌝ }
+    ensures { λ _. ⌜ Placed at transactionBytes (packTransaction t) (now (bytes .entry)) (now (bytes .exit)) ⌝ }
+{
+    put_request(bytes, at, t);
+    put_progress(bytes, at, t);
 }
 
 // Whether each state byte is a state.
