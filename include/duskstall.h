@@ -115,13 +115,18 @@ extern "C" {
 #define DUSKSTALL_ID_BYTES 16                   /* a transactionID */
 #define DUSKSTALL_NONCE_BYTES 16                /* a senderNonce or recipNonce */
 #define DUSKSTALL_HASH_BYTES 32                 /* a certHash */
+#define DUSKSTALL_BOARD_BYTES 2                 /* a board */
+#define DUSKSTALL_STATUS_BYTES 4                /* a PKIStatus */
+#define DUSKSTALL_OFFSET_BYTES 8                /* a fault's offset */
 #define DUSKSTALL_SLOTS 16                      /* transactions in a table */
-#define DUSKSTALL_TRANSACTION_BYTES 84
-#define DUSKSTALL_TABLE_BYTES 1344              /* the slots one after the other */
-#define DUSKSTALL_ENROLMENT_BYTES 82
-#define DUSKSTALL_OUTGOING_BYTES 88
-#define DUSKSTALL_REGISTRAR_ANSWER_BYTES 103
-#define DUSKSTALL_END_ENTITY_ANSWER_BYTES 102
+#define DUSKSTALL_TRANSACTION_BYTES                                                                                    \
+    (DUSKSTALL_ID_BYTES + DUSKSTALL_BOARD_BYTES + 1 + 2 * DUSKSTALL_NONCE_BYTES + DUSKSTALL_HASH_BYTES + 1)
+#define DUSKSTALL_TABLE_BYTES (DUSKSTALL_SLOTS * DUSKSTALL_TRANSACTION_BYTES) /* the slots one after the other */
+#define DUSKSTALL_ENROLMENT_BYTES (DUSKSTALL_ID_BYTES + 1 + 2 * DUSKSTALL_NONCE_BYTES + DUSKSTALL_HASH_BYTES + 1)
+#define DUSKSTALL_OUTGOING_BYTES                                                                                       \
+    (1 + DUSKSTALL_ID_BYTES + 2 * DUSKSTALL_NONCE_BYTES + 2 + DUSKSTALL_STATUS_BYTES + DUSKSTALL_HASH_BYTES + 1)
+#define DUSKSTALL_REGISTRAR_ANSWER_BYTES (4 + DUSKSTALL_OFFSET_BYTES + 3 + DUSKSTALL_OUTGOING_BYTES)
+#define DUSKSTALL_END_ENTITY_ANSWER_BYTES (4 + DUSKSTALL_OFFSET_BYTES + 2 + DUSKSTALL_OUTGOING_BYTES)
 #define DUSKSTALL_FIELDS 47                     /* numbers, of 8 bytes each, that duskstall_read writes */
 
 /* ---- What the host says of a message ----------------------------------------------------------------------------- */
@@ -253,13 +258,19 @@ enum duskstall_kind {
 
 /* A transaction, in a slot of the registrar's table. */
 enum duskstall_transaction_place {
-    DUSKSTALL_TRANSACTION_ID = 0,     /* 16 bytes */
-    DUSKSTALL_TRANSACTION_BOARD = 16, /* 2: the board that the request's verdict named */
-    DUSKSTALL_TRANSACTION_KIND = 18,  /* of the request */
-    DUSKSTALL_TRANSACTION_TAKEN = 19, /* 16: the senderNonce that was taken last */
-    DUSKSTALL_TRANSACTION_SENT = 35,  /* 16: the senderNonce of the response */
-    DUSKSTALL_TRANSACTION_HASH = 51,  /* 32: of the certificate that was issued */
-    DUSKSTALL_TRANSACTION_STATE = 83
+    /* 16 bytes */
+    DUSKSTALL_TRANSACTION_ID = 0,
+    /* 2: the board that the request's verdict named */
+    DUSKSTALL_TRANSACTION_BOARD = DUSKSTALL_TRANSACTION_ID + DUSKSTALL_ID_BYTES,
+    /* of the request */
+    DUSKSTALL_TRANSACTION_KIND = DUSKSTALL_TRANSACTION_BOARD + DUSKSTALL_BOARD_BYTES,
+    /* 16: the senderNonce that was taken last */
+    DUSKSTALL_TRANSACTION_TAKEN = DUSKSTALL_TRANSACTION_KIND + 1,
+    /* 16: the senderNonce of the response */
+    DUSKSTALL_TRANSACTION_SENT = DUSKSTALL_TRANSACTION_TAKEN + DUSKSTALL_NONCE_BYTES,
+    /* 32: of the certificate that was issued */
+    DUSKSTALL_TRANSACTION_HASH = DUSKSTALL_TRANSACTION_SENT + DUSKSTALL_NONCE_BYTES,
+    DUSKSTALL_TRANSACTION_STATE = DUSKSTALL_TRANSACTION_HASH + DUSKSTALL_HASH_BYTES
 };
 
 enum duskstall_transaction_state {
@@ -274,12 +285,17 @@ enum duskstall_transaction_state {
 
 /* An enrolment of an end entity. */
 enum duskstall_enrolment_place {
-    DUSKSTALL_ENROLMENT_ID = 0,     /* 16 bytes */
-    DUSKSTALL_ENROLMENT_KIND = 16,  /* of the request */
-    DUSKSTALL_ENROLMENT_LAST = 17,  /* 16: the senderNonce that was sent last */
-    DUSKSTALL_ENROLMENT_TAKEN = 33, /* 16: the senderNonce of the response that a certConf answered */
-    DUSKSTALL_ENROLMENT_HASH = 49,  /* 32: the host's, of the certificate in it */
-    DUSKSTALL_ENROLMENT_STATE = 81
+    /* 16 bytes */
+    DUSKSTALL_ENROLMENT_ID = 0,
+    /* of the request */
+    DUSKSTALL_ENROLMENT_KIND = DUSKSTALL_ENROLMENT_ID + DUSKSTALL_ID_BYTES,
+    /* 16: the senderNonce that was sent last */
+    DUSKSTALL_ENROLMENT_LAST = DUSKSTALL_ENROLMENT_KIND + 1,
+    /* 16: the senderNonce of the response that a certConf answered */
+    DUSKSTALL_ENROLMENT_TAKEN = DUSKSTALL_ENROLMENT_LAST + DUSKSTALL_NONCE_BYTES,
+    /* 32: the host's, of the certificate in it */
+    DUSKSTALL_ENROLMENT_HASH = DUSKSTALL_ENROLMENT_TAKEN + DUSKSTALL_NONCE_BYTES,
+    DUSKSTALL_ENROLMENT_STATE = DUSKSTALL_ENROLMENT_HASH + DUSKSTALL_HASH_BYTES
 };
 
 enum duskstall_enrolment_state {
@@ -296,30 +312,46 @@ enum duskstall_enrolment_state {
 
 /* The first bytes are the same at both ends. */
 enum duskstall_answer_place {
-    DUSKSTALL_ANSWER_CODE = 0,         /* what the call returned: 0, 1 or 2 */
-    DUSKSTALL_ANSWER_REFUSAL = 1,      /* its number; 0 where it was not refused */
-    DUSKSTALL_ANSWER_BIT = 2,          /* of the refusal; DUSKSTALL_NO_BIT for none */
-    DUSKSTALL_ANSWER_FAULT = 3,        /* 1 or 2 where the message does not read, else 0 */
-    DUSKSTALL_ANSWER_FAULT_OFFSET = 4, /* 8 bytes: where; 0 unless refused by 2 */
-    DUSKSTALL_ANSWER_FAULT_RULE = 12,  /* enum duskstall_rule; 0 unless refused by 2 */
-    DUSKSTALL_REGISTRAR_SLOT = 13,     /* of the transaction; 0 where refused */
-    DUSKSTALL_REGISTRAR_SENDS = 14,    /* 1: a message is to be sent; 0: none, and what follows says nothing */
-    DUSKSTALL_REGISTRAR_OUTGOING = 15,
-    DUSKSTALL_END_ENTITY_SENDS = 13,
-    DUSKSTALL_END_ENTITY_OUTGOING = 14
+    /* what the call returned: 0, 1 or 2 */
+    DUSKSTALL_ANSWER_CODE = 0,
+    /* its number; 0 where it was not refused */
+    DUSKSTALL_ANSWER_REFUSAL = DUSKSTALL_ANSWER_CODE + 1,
+    /* of the refusal; DUSKSTALL_NO_BIT for none */
+    DUSKSTALL_ANSWER_BIT = DUSKSTALL_ANSWER_REFUSAL + 1,
+    /* 1 or 2 where the message does not read, else 0 */
+    DUSKSTALL_ANSWER_FAULT = DUSKSTALL_ANSWER_BIT + 1,
+    /* 8 bytes: where; 0 unless refused by 2 */
+    DUSKSTALL_ANSWER_FAULT_OFFSET = DUSKSTALL_ANSWER_FAULT + 1,
+    /* enum duskstall_rule; 0 unless refused by 2 */
+    DUSKSTALL_ANSWER_FAULT_RULE = DUSKSTALL_ANSWER_FAULT_OFFSET + DUSKSTALL_OFFSET_BYTES,
+    /* of the transaction; 0 where refused */
+    DUSKSTALL_REGISTRAR_SLOT = DUSKSTALL_ANSWER_FAULT_RULE + 1,
+    /* 1: a message is to be sent; 0: none, and what follows says nothing */
+    DUSKSTALL_REGISTRAR_SENDS = DUSKSTALL_REGISTRAR_SLOT + 1,
+    DUSKSTALL_REGISTRAR_OUTGOING = DUSKSTALL_REGISTRAR_SENDS + 1,
+    DUSKSTALL_END_ENTITY_SENDS = DUSKSTALL_ANSWER_FAULT_RULE + 1,
+    DUSKSTALL_END_ENTITY_OUTGOING = DUSKSTALL_END_ENTITY_SENDS + 1
 };
 
 /* A message to be sent. */
 enum duskstall_outgoing_place {
     DUSKSTALL_OUTGOING_KIND = 0,
-    DUSKSTALL_OUTGOING_ID = 1,               /* 16 bytes */
-    DUSKSTALL_OUTGOING_SENDER_NONCE = 17,    /* 16 */
-    DUSKSTALL_OUTGOING_HAS_RECIP_NONCE = 33, /* 1, but 0 in a request */
-    DUSKSTALL_OUTGOING_RECIP_NONCE = 34,     /* 16 */
-    DUSKSTALL_OUTGOING_HAS_STATUS = 50,      /* 1 in a response, a certConf and an error */
-    DUSKSTALL_OUTGOING_STATUS = 51,          /* 4: PKIStatus, 0 accepted or 2 rejection */
-    DUSKSTALL_OUTGOING_HASH = 55,            /* 32: certHash, in a certConf */
-    DUSKSTALL_OUTGOING_FAILURE = 87          /* in an error, the bit for failInfo; DUSKSTALL_NO_BIT for none */
+    /* 16 bytes */
+    DUSKSTALL_OUTGOING_ID = DUSKSTALL_OUTGOING_KIND + 1,
+    /* 16 */
+    DUSKSTALL_OUTGOING_SENDER_NONCE = DUSKSTALL_OUTGOING_ID + DUSKSTALL_ID_BYTES,
+    /* 1, but 0 in a request */
+    DUSKSTALL_OUTGOING_HAS_RECIP_NONCE = DUSKSTALL_OUTGOING_SENDER_NONCE + DUSKSTALL_NONCE_BYTES,
+    /* 16 */
+    DUSKSTALL_OUTGOING_RECIP_NONCE = DUSKSTALL_OUTGOING_HAS_RECIP_NONCE + 1,
+    /* 1 in a response, a certConf and an error */
+    DUSKSTALL_OUTGOING_HAS_STATUS = DUSKSTALL_OUTGOING_RECIP_NONCE + DUSKSTALL_NONCE_BYTES,
+    /* 4: PKIStatus, 0 accepted or 2 rejection */
+    DUSKSTALL_OUTGOING_STATUS = DUSKSTALL_OUTGOING_HAS_STATUS + 1,
+    /* 32: certHash, in a certConf */
+    DUSKSTALL_OUTGOING_HASH = DUSKSTALL_OUTGOING_STATUS + DUSKSTALL_STATUS_BYTES,
+    /* in an error, the bit for failInfo; DUSKSTALL_NO_BIT for none */
+    DUSKSTALL_OUTGOING_FAILURE = DUSKSTALL_OUTGOING_HASH + DUSKSTALL_HASH_BYTES
 };
 
 /* What is to be sent, or null. */

@@ -16,9 +16,11 @@ use std::fmt::Debug;
 
 const HEADER: &str = include_str!("../../include/duskstall.h");
 
-/// The value of a constant, which the header sets once.
+/// The value of a constant, which the header sets once: a number, or a sum of
+/// products of numbers and other constants.
 fn value(name: &str) -> usize {
-    let values: Vec<&str> = HEADER
+    let header = HEADER.replace("\\\n", " ");
+    let values: Vec<&str> = header
         .lines()
         .filter_map(|line| {
             let (before, after) = line.split_once(&format!("DUSKSTALL_{name} "))?;
@@ -29,8 +31,20 @@ fn value(name: &str) -> usize {
     let [value] = values[..] else {
         panic!("{name} is set {} times", values.len());
     };
-    let digits = value.split(|c: char| !c.is_ascii_digit()).next();
-    digits.and_then(|digits| digits.parse().ok()).expect(name)
+    let sum = value.split(['/', ',']).next().expect(name).trim();
+    let sum = sum.trim_start_matches('(').trim_end_matches(')');
+    let products = sum.split('+');
+    products
+        .map(|product| product.split('*').map(factor).product::<usize>())
+        .sum()
+}
+
+fn factor(factor: &str) -> usize {
+    let factor = factor.trim();
+    match factor.strip_prefix("DUSKSTALL_") {
+        Some(name) => value(name),
+        None => factor.parse().expect(factor),
+    }
 }
 
 #[test]
@@ -41,6 +55,18 @@ fn sizes_and_codes() {
         ("TRANSACTION_BYTES", TRANSACTION_BYTES),
         ("TABLE_BYTES", TABLE_BYTES),
         ("ENROLMENT_BYTES", ENROLMENT_BYTES),
+        // A record ends with its last field, which is one byte.
+        ("TRANSACTION_STATE", TRANSACTION_BYTES - 1),
+        ("ENROLMENT_STATE", ENROLMENT_BYTES - 1),
+        ("OUTGOING_FAILURE", value("OUTGOING_BYTES") - 1),
+        (
+            "REGISTRAR_OUTGOING",
+            REGISTRAR_ANSWER_BYTES - value("OUTGOING_BYTES"),
+        ),
+        (
+            "END_ENTITY_OUTGOING",
+            END_ENTITY_ANSWER_BYTES - value("OUTGOING_BYTES"),
+        ),
         ("REGISTRAR_ANSWER_BYTES", REGISTRAR_ANSWER_BYTES),
         ("END_ENTITY_ANSWER_BYTES", END_ENTITY_ANSWER_BYTES),
         ("ID_BYTES", size_of::<TransactionId>()),

@@ -13,6 +13,7 @@ use Rattle.protocol.specs.declared.RegistrarAnswer.{RegistrarAnswer}
 use Rattle.protocol.specs.declared.EndEntityAnswer.{EndEntityAnswer}
 use Rattle.protocol.specs.EndEntity.{endEntityStart}
 use Rattle.packed.specs.Arrays.{unpack16}
+use Rattle.packed.specs.Places.{answerCodeAt}
 use Rattle.packed.specs.Answer.{registrarAnswerBytes, endEntityAnswerBytes}
 use Rattle.packed.specs.Table.{unpackTable, TableSized}
 use Rattle.packed.specs.Enrolment.{enrolmentBytes, unpackEnrolment, EnrolmentSized}
@@ -32,7 +33,7 @@ use Rattle.lent.proofs.Stand.{made-of}
 -- ## A crossing that was made, where p says that what was handed in has its lengths
 
 record Plain (p : Bool) (x : Crossing) : Type 0 where
-  code : getD (x .answer) 0 0 ≡ x .code
+  code : getD (x .answer) answerCodeAt 0 ≡ x .code
   args : p ≡ true
 
 registrar-plain : (p : Bool) (f : TransactionTable → RegistrarAnswer) (s b : List ℕ) → ((t : TransactionTable) → TableSized t → RegistrarSized (f t))
@@ -62,10 +63,10 @@ IdSized (AtEndEntity k c a) = Unit {0}
 IdSized (EndEntityStart b s k i n a) = length i ≡ 16
 
 pub record PlainEvent (e : LentEvent) : Type 0 where
-  pub code : getD (e .answer) 0 0 ≡ e .code
+  pub code : getD (e .answer) answerCodeAt 0 ≡ e .code
   pub id : IdSized (e .call)
 
-plain : (w : LentWorld) (c : LentCall) → isMade (crossing w c .code) ≡ true → (getD (crossing w c .answer) 0 0 ≡ crossing w c .code) × IdSized c
+plain : (w : LentWorld) (c : LentCall) → isMade (crossing w c .code) ≡ true → (getD (crossing w c .answer) answerCodeAt 0 ≡ crossing w c .code) × IdSized c
 plain w (AtRegistrar c b) m =
     let f : RegistrarForm c = registrar-form c in
     let e : registrarCrosses c (w .table) b ≡ registrarCrossing (f .args) (registrarAnswers c) (w .table) b = f .crosses (w .table) b in
@@ -107,7 +108,7 @@ AllPlain (e ∷ es) = (isMade (e .code) ≡ true → PlainEvent e) × AllPlain e
 plain-step : (w : LentWorld) (c : LentCall) → AllPlain (w .past) → AllPlain (lentStep w c .past)
 plain-step w c h =
     let a : Adds w c (crossing w c) (lentStep w c .past) = call-adds w c in
-    subst AllPlain (sym (a .adds)) ((λ m. let q : (getD (crossing w c .answer) 0 0 ≡ crossing w c .code) × IdSized c = plain w c (subst (λ (n : ℕ). isMade n ≡ true) (a .code) m) in record { code = ap (λ (l : List ℕ). getD l 0 0) (a .answer) ∙ q .0 ∙ sym (a .code); id = subst IdSized (sym (a .call)) (q .1) }), h)
+    subst AllPlain (sym (a .adds)) ((λ m. let q : (getD (crossing w c .answer) answerCodeAt 0 ≡ crossing w c .code) × IdSized c = plain w c (subst (λ (n : ℕ). isMade n ≡ true) (a .code) m) in record { code = ap (λ (l : List ℕ). getD l 0 0) (a .answer) ∙ q .0 ∙ sym (a .code); id = subst IdSized (sym (a .call)) (q .1) }), h)
 
 pub all-plain : (cs : List LentCall) (w : LentWorld) → AllPlain (w .past) → AllPlain (lentAfter w cs .past)
 unfolding lentAfter

@@ -17,6 +17,7 @@ use Rattle.protocol.proofs.Tests.{true-false, none-some, some-some}
 use Rattle.packed.specs.declared.table.UnpackedTable.{UnpackedTable}
 use Rattle.packed.specs.Bytes.{flagAt}
 use Rattle.packed.specs.Arrays.{unpack16}
+use Rattle.packed.specs.Places.{registrarSendsAt}
 use Rattle.packed.specs.Answer.{registrarAnswerBytes}
 use Rattle.packed.specs.Table.{tableBytes, packTable, unpackTable}
 use Rattle.packed.proofs.AnswerInverse.{registrar-sends-back}
@@ -63,7 +64,7 @@ lapse-ends = rw (empty-read, lapse-refused (idOf (zeros 16)))
 state-is : ends .state ≡ packTable emptyTable
 state-is = table-in (packTable emptyTable) emptyTable empty-ok
 
-sends-not : flagAt 14 (ends .answer) ≡ true → ⊥
+sends-not : flagAt registrarSendsAt (ends .answer) ≡ true → ⊥
 sends-not e = true-false (sym e ∙ registrar-sends-back (refusedQuietly 30 emptyTable) (zeros registrarAnswerBytes) silent-sized refl)
 
 -- ## Nothing was closed

@@ -19,6 +19,7 @@ use Rattle.protocol.specs.EndEntity.{endEntityStart}
 use Rattle.protocol.specs.Promises.{OneOf, RegistrarPromise, EndEntityPromise}
 use Rattle.protocol.proofs.Tests.{true-false}
 use Rattle.protocol.proofs.EndEntityPromises.{start-promise, start-never}
+use Rattle.packed.specs.Places.{answerRefusalAt}
 use Rattle.packed.specs.Answer.{outcomeNumber, registrarAnswerBytes, endEntityAnswerBytes}
 use Rattle.packed.specs.Table.{packTable, unpackTable, packTableIn, TableSized}
 use Rattle.packed.specs.Enrolment.{enrolmentBytes, unpackEnrolment, packEnrolmentIn, EnrolmentSized}
@@ -48,7 +49,7 @@ record Keeps (R : Type 0) (ns s b : List ℕ) (x : Crossing) : Type 0 where
   code : OneOf (x .code) codes
   unchanged : x .code ≢ 0 → x .state ≡ s
   untouched : isMade (x .code) ≡ false → x .answer ≡ b
-  number : x .code ≡ 2 → OneOf (getD (x .answer) 1 0) ns
+  number : x .code ≡ 2 → OneOf (getD (x .answer) answerRefusalAt 0) ns
   again : x .code ≡ 1 → R
 
 -- bytes at fault
@@ -64,7 +65,7 @@ unless-faulty R ns s b x true true true h = h refl refl
 -- a call that was made
 written : (R : Type 0) (ns s b : List ℕ) (o : Outcome) (s′ b′ : List ℕ)
     → (o ≡ Again → (s′ ≡ s) × R)
-    → ((n : ℕ) (f : FailureInfo) → o ≡ Refused n f → (s′ ≡ s) × OneOf (getD b′ 1 0) ns)
+    → ((n : ℕ) (f : FailureInfo) → o ≡ Refused n f → (s′ ≡ s) × OneOf (getD b′ answerRefusalAt 0) ns)
     → Keeps R ns s b (record { code = outcomeNumber o; state = s′; answer = b′ })
 written R ns s b Done s′ b′ g h =
     record { code = inl refl; unchanged = λ d. absurd (d refl); untouched = λ e. true-false e; number = λ e. absurd (omega arith); again = λ e. absurd (omega arith) }

@@ -18,6 +18,7 @@ use Rattle.protocol.specs.Agreement.{Some, Issued, SenderIssued, FairEvent, Fai
 use Rattle.protocol.proofs.Tests.{none-some, some-some, cases}
 use Rattle.packed.specs.Arrays.{unpack16}
 use Rattle.packed.specs.Outgoing.{outgoingOf}
+use Rattle.packed.specs.Places.{answerCodeAt}
 use Rattle.packed.specs.Answer.{outcomeOf}
 use Rattle.duskstall.specs.Calls.{idOf}
 use Rattle.lent.specs.Calls.{closing}
@@ -34,32 +35,32 @@ use Rattle.lent.proofs.Places.{id-is}
 abbrev NotRefused : ℕ → TransactionId → TransactionId → Outcome → Type 0
 NotRefused k j i o = unlessRefused o j ≡ some i → (ltb k 2 ≡ true) × (j ≡ i)
 
-not-refused : (x : List ℕ) (j i : TransactionId) → unlessRefused (outcomeOf x) j ≡ some i → (ltb (getD x 0 0) 2 ≡ true) × (j ≡ i)
+not-refused : (x : List ℕ) (j i : TransactionId) → unlessRefused (outcomeOf x) j ≡ some i → (ltb (getD x answerCodeAt 0) 2 ≡ true) × (j ≡ i)
 unfolding outcomeOf
 not-refused x j i =
-    cases (NotRefused (getD x 0 0) j i) (eqb (getD x 0 0) 0) _ _ (λ e q. (ap (λ (n : ℕ). ltb n 2) (eqb-true (getD x 0 0) 0 e), some-some q))
-    (λ _. cases (NotRefused (getD x 0 0) j i) (eqb (getD x 0 0) 1) _ _ (λ e q. (ap (λ (n : ℕ). ltb n 2) (eqb-true (getD x 0 0) 1 e), some-some q)) (λ _ q. none-some q))
+    cases (NotRefused (getD x answerCodeAt 0) j i) (eqb (getD x answerCodeAt 0) 0) _ _ (λ e q. (ap (λ (n : ℕ). ltb n 2) (eqb-true (getD x answerCodeAt 0) 0 e), some-some q))
+    (λ _. cases (NotRefused (getD x answerCodeAt 0) j i) (eqb (getD x answerCodeAt 0) 1) _ _ (λ e q. (ap (λ (n : ℕ). ltb n 2) (eqb-true (getD x answerCodeAt 0) 1 e), some-some q)) (λ _ q. none-some q))
 
 id-bytes : (j : List ℕ) → length j ≡ 16 → idOf j .bytes ≡ j
 unfolding unpack16
 id-bytes j e = rw (eq-eqb (length j) 16 e)
 
-named : (x j : List ℕ) (k : ℕ) → getD x 0 0 ≡ k → length j ≡ 16 → (i : TransactionId) → unlessRefused (outcomeOf x) (idOf j) ≡ some i → (ltb k 2 ≡ true) × (j ≡ i .bytes)
+named : (x j : List ℕ) (k : ℕ) → getD x answerCodeAt 0 ≡ k → length j ≡ 16 → (i : TransactionId) → unlessRefused (outcomeOf x) (idOf j) ≡ some i → (ltb k 2 ≡ true) × (j ≡ i .bytes)
 named x j k c z i e =
-    let q : (ltb (getD x 0 0) 2 ≡ true) × (idOf j ≡ i) = not-refused x (idOf j) i e in
+    let q : (ltb (getD x answerCodeAt 0) 2 ≡ true) × (idOf j ≡ i) = not-refused x (idOf j) i e in
     (subst (λ (n : ℕ). ltb n 2 ≡ true) c (q .0), sym (id-bytes j z) ∙ ap (λ (t : TransactionId). t .bytes) (q .1))
 
-drawn-at : (c : LentCall) (x : List ℕ) (k : ℕ) → getD x 0 0 ≡ k → IdSized c → (i : TransactionId) → drawnOf c x ≡ some i → (ltb k 2 ≡ true) × IsStart (i .bytes) c
+drawn-at : (c : LentCall) (x : List ℕ) (k : ℕ) → getD x answerCodeAt 0 ≡ k → IdSized c → (i : TransactionId) → drawnOf c x ≡ some i → (ltb k 2 ≡ true) × IsStart (i .bytes) c
 drawn-at (AtRegistrar d a) x k c z i e = none-some e
 drawn-at (AtEndEntity q d a) x k c z i e = none-some e
 drawn-at (EndEntityStart b s q j n a) x k c z i e = named x j k c z i e
 
-closed-id : (o : Option (List ℕ)) (x : List ℕ) (k : ℕ) → getD x 0 0 ≡ k → ((j : List ℕ) → o ≡ some j → length j ≡ 16) → (i : TransactionId)
+closed-id : (o : Option (List ℕ)) (x : List ℕ) (k : ℕ) → getD x answerCodeAt 0 ≡ k → ((j : List ℕ) → o ≡ some j → length j ≡ 16) → (i : TransactionId)
     → closedBy o (outcomeOf x) ≡ some i → (ltb k 2 ≡ true) × (o ≡ some (i .bytes))
 closed-id none x k c z i e = none-some e
 closed-id (some j) x k c z i e = let q : (ltb k 2 ≡ true) × (j ≡ i .bytes) = named x j k c (z j refl) i e in (q .0, ap some (q .1))
 
-pub closed-at : (c : LentCall) (x : List ℕ) (k : ℕ) → getD x 0 0 ≡ k → IdSized c → (i : TransactionId) → closedOf c x ≡ some i → (ltb k 2 ≡ true) × IsClose (i .bytes) c
+pub closed-at : (c : LentCall) (x : List ℕ) (k : ℕ) → getD x answerCodeAt 0 ≡ k → IdSized c → (i : TransactionId) → closedOf c x ≡ some i → (ltb k 2 ≡ true) × IsClose (i .bytes) c
 closed-at (AtRegistrar d a) x k c z i e = closed-id (closing d) x k c z i e
 closed-at (AtEndEntity q d a) x k c z i e = none-some e
 closed-at (EndEntityStart b s q j n a) x k c z i e = none-some e
@@ -104,13 +105,13 @@ good-back (AtRegistrar c a) es h = registrar-form c .good es .1 h
 good-back (AtEndEntity k c a) es h = end-entity-form c .good k es .1 h
 good-back (EndEntityStart b s k i n a) es h = tt
 
-taken-some : (x : List ℕ) (j : TransactionId) (k : ℕ) → getD x 0 0 ≡ k → ltb k 2 ≡ true → unlessRefused (outcomeOf x) j ≡ some j
+taken-some : (x : List ℕ) (j : TransactionId) (k : ℕ) → getD x answerCodeAt 0 ≡ k → ltb k 2 ≡ true → unlessRefused (outcomeOf x) j ≡ some j
 unfolding outcomeOf
 taken-some x j zero e h = rw e
 taken-some x j (suc zero) e h = rw e
 taken-some x j (suc (suc k)) e h = let q : suc (suc k) < 2 = ltb-true _ _ h in absurd (omega arith)
 
-drawn-back : (c : LentCall) (x : List ℕ) (k : ℕ) → getD x 0 0 ≡ k → IdSized c → (i : List ℕ) → (ltb k 2 ≡ true) × IsStart i c → drawnOf c x ≡ some (record { bytes = i })
+drawn-back : (c : LentCall) (x : List ℕ) (k : ℕ) → getD x answerCodeAt 0 ≡ k → IdSized c → (i : List ℕ) → (ltb k 2 ≡ true) × IsStart i c → drawnOf c x ≡ some (record { bytes = i })
 drawn-back (AtRegistrar d a) x k c z i e = absurd (e .1)
 drawn-back (AtEndEntity q d a) x k c z i e = absurd (e .1)
 drawn-back (EndEntityStart b s q j n a) x k c z i e = taken-some x (idOf j) k c (e .0) ∙ ap some (id-is (idOf j) (record { bytes = i }) (id-bytes j z ∙ e .1))

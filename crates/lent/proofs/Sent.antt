@@ -15,6 +15,7 @@ use Rattle.protocol.specs.declared.Outgoing.{Outgoing}
 use Rattle.protocol.specs.Run.{End, Event, sentBy}
 use Rattle.protocol.specs.Agreement.{Some, Gave, Issued, Carries, IssuedReading}
 use Rattle.protocol.proofs.Tests.{none-some, some-some, cases}
+use Rattle.packed.specs.Places.{flagBytes}
 use Rattle.packed.specs.Outgoing.{outgoingOf}
 use Rattle.lent.specs.Lent.{LentCall, AtRegistrar, AtEndEntity, EndEntityStart, LentEvent, isMade, registrarSent, endEntitySent, sentOf, eventOf, eventsOf}
 use Rattle.lent.specs.Places.{outgoingPlace, outgoingIn, sendsIn}
@@ -22,7 +23,7 @@ use Rattle.lent.specs.Header.{SomeMade, Sent, CarriesBytes, IssuedBytes}
 
 -- ## What was sent
 
-sent-is : (c : LentCall) (x : List ℕ) → sentOf c x ≡ sentBy (eqb (getD x (outgoingPlace c - 1) 0) 1) (outgoingOf (drop (outgoingPlace c) x))
+sent-is : (c : LentCall) (x : List ℕ) → sentOf c x ≡ sentBy (eqb (getD x (outgoingPlace c - flagBytes) 0) 1) (outgoingOf (drop (outgoingPlace c) x))
 unfolding registrarSent endEntitySent
 sent-is (AtRegistrar c a) x = refl
 sent-is (AtEndEntity k c a) x = refl

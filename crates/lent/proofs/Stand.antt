@@ -21,6 +21,7 @@ use Rattle.packed.specs.Bytes.{packAt}
 use Rattle.packed.specs.Outgoing.{OutgoingSized}
 use Rattle.packed.specs.Answer.{outcomeNumber, registrarAnswerBytes, packRegistrarAnswer, endEntityAnswerBytes, packEndEntityAnswer}
 use Rattle.packed.specs.Table.{tableBytes, statesGood, packTable, unpackTable, packTableIn, TableSized}
+use Rattle.packed.specs.Places.{enrolmentStateAt}
 use Rattle.packed.specs.Enrolment.{enrolmentBytes, packEnrolment, unpackEnrolment, packEnrolmentIn, EnrolmentSized}
 use Rattle.packed.proofs.Tests.{both}
 use Rattle.packed.proofs.AnswerInverse.{registrar-sends-back, registrar-outgoing-back, end-entity-sends-back, end-entity-outgoing-back}
@@ -97,7 +98,7 @@ enrolment-read x z e = ap unpackEnrolment e ∙ enrolment-inverse.unpack-packed 
 
 pub enrolment-in : (s : List ℕ) (x : Enrolment) → unpackEnrolment s .ok ≡ true → packEnrolmentIn x s ≡ packEnrolment x
 unfolding packEnrolmentIn unpackEnrolment
-enrolment-in s x h = rw ((both (λ (u : UnpackedEnrolment). u .ok) _ _ refl (eqb (length s) enrolmentBytes) (ltb (getD s 81 0) 7) h) .0)
+enrolment-in s x h = rw ((both (λ (u : UnpackedEnrolment). u .ok) _ _ refl (eqb (length s) enrolmentBytes) (ltb (getD s enrolmentStateAt 0) 7) h) .0)
 
 -- ## What is read out of the bytes
 

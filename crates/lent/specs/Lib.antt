@@ -2,6 +2,7 @@ pub mod Calls
 pub mod ConfirmationBytes
 pub mod ForgottenTable
 pub mod Header
+pub mod HeaderPlaces
 pub mod Kept
 pub mod Lent
 pub mod Made

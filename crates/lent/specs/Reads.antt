@@ -11,6 +11,7 @@ use Rattle.protocol.specs.declared.EndEntityAnswer.{EndEntityAnswer}
 use Rattle.protocol.specs.EndEntity.{endEntityStart}
 use Rattle.protocol.specs.Promises.{AtMostOne, AllUnsetZero}
 use Rattle.packed.specs.Bytes.{flagAt}
+use Rattle.packed.specs.Places.{endEntitySendsAt, endEntityOutgoingAt}
 use Rattle.packed.specs.Outgoing.{outgoingOf}
 use Rattle.packed.specs.Answer.{outcomeNumber, outcomeOf, readFaultOf, registrarAnswerOf, endEntityAnswerOf}
 use Rattle.packed.specs.Table.{tableBytes, unpackTable}
@@ -47,8 +48,8 @@ pub record StartReads (x : Crossing) (a : EndEntityAnswer) : Type 0 where
   pub code : x .code ≡ outcomeNumber (a .outcome)
   pub outcome : outcomeOf (x .answer) ≡ a .outcome
   pub fault : readFaultOf (x .answer) ≡ a .fault
-  pub sends : flagAt 13 (x .answer) ≡ a .sends
-  pub outgoing : outgoingOf (drop 14 (x .answer)) ≡ a .outgoing
+  pub sends : flagAt endEntitySendsAt (x .answer) ≡ a .sends
+  pub outgoing : outgoingOf (drop endEntityOutgoingAt (x .answer)) ≡ a .outgoing
   pub enrolment : x .code ≡ 0 → unpackEnrolment (x .state) .enrolment ≡ a .enrolment
 
 abbrev pub ReadsBack : LentWorld → LentCall → Type 0

@@ -7,6 +7,7 @@ use mathlib.Core.Logic.{_≢_}
 use lib.ListN.{length, getD}
 use Rattle.packed.specs.Bytes.{part, AllBytes}
 use Rattle.packed.specs.Table.{transactionBytes, tableBytes}
+use Rattle.lent.specs.HeaderPlaces.{registrarSlotPlace}
 use Rattle.lent.specs.Calls.{RegistrarCall, registrarCrosses}
 use Rattle.lent.specs.Lent.{LentCall, LentWorld, isMade, lentAfter, lentBeginning}
 
@@ -16,7 +17,7 @@ slotBytes p t = part (p * transactionBytes) transactionBytes t
 
 -- DUSKSTALL_REGISTRAR_SLOT
 abbrev pub answerSlot : (answer : List ℕ) → ℕ
-answerSlot b = getD b 13 0
+answerSlot b = getD b registrarSlotPlace 0
 
 abbrev pub OnlyItsSlot : LentWorld → Type 0
 OnlyItsSlot w =

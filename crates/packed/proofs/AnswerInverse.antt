@@ -5,25 +5,22 @@ use mathlib.Core.Bool.{true}
 use mathlib.Core.Path.{_≡_, refl, _∙_, ap}
 use native.Mathlib.Omega.{arith}
 use borrow.Author.Tests.{leb-true, lt-ltb}
-use lib.ListN.{length, drop, getD, length-append}
+use lib.ListN.{length, drop, getD}
 use lib.Seq.{sets-eq}
 use lib.Dec.{leb}
 use Rattle.protocol.specs.declared.FailureInfo.{FailureInfo}
-use Rattle.protocol.specs.declared.Outgoing.{Outgoing}
 use Rattle.protocol.specs.declared.Outcome.{Outcome}
 use Rattle.protocol.specs.declared.Outcome.the-variants.{Done, Again, Refused}
 use Rattle.protocol.specs.declared.RegistrarAnswer.{RegistrarAnswer}
 use Rattle.protocol.specs.declared.EndEntityAnswer.{EndEntityAnswer}
 use Rattle.packed.specs.Bytes.{flagAt, packAt, fitsAt}
-use Rattle.packed.specs.Outgoing.{packNames, packStatus, packOutgoing, outgoingOf, OutgoingSized}
+use Rattle.packed.specs.Places.{answerCodeAt, answerRefusalAt, registrarSlotAt, registrarSendsAt, registrarOutgoingAt, endEntitySendsAt, endEntityOutgoingAt}
+use Rattle.packed.specs.Outgoing.{outgoingOf, OutgoingSized}
 use Rattle.packed.specs.Answer.{outcomeNumber, refusalNumber, packOutcome, packFault, packRegistrarAnswer, packEndEntityAnswer, registrarAnswerBytes, endEntityAnswerBytes, outcomeOf, readFaultOf, registrarAnswerOf, endEntityAnswerOf, OutcomeBack}
 use Rattle.packed.specs.Table.{unpackTable}
 use Rattle.packed.specs.Enrolment.{unpackEnrolment}
-use Rattle.packed.proofs.OutgoingInverse.{flag-back, outgoing-back}
-
-pub outgoing-length : (o : Outgoing) → OutgoingSized o → length (packOutgoing o) ≡ 88
-unfolding packNames packStatus
-outgoing-length o z = simp length-append (omega (arith, z .id, z .sender, z .recip, z .hash))
+use Rattle.packed.proofs.FieldLaws.{flag-back, four-back}
+use Rattle.packed.proofs.OutgoingInverse.{outgoing-back, outgoing-length}
 
 -- ## An answer in bytes that have room for it
 
@@ -38,9 +35,6 @@ unfolding outcomeOf packOutcome
 outcome-back Done rest h = refl
 outcome-back Again rest h = refl
 outcome-back (Refused n f) rest h = ap (Refused n) h
-
-four-back : (n : ℕ) → 65536 * (256 * (n / 65536 / 256) + n / 65536 % 256) + (256 * (n % 65536 / 256) + n % 65536 % 256) ≡ n
-four-back n = omega arith
 
 eight-back : (n : ℕ) → 4294967296 * (n / 4294967296) + n % 4294967296 ≡ n
 eight-back n = omega arith
@@ -61,17 +55,17 @@ module _ (a : RegistrarAnswer) (b : List ℕ) (z : OutgoingSized (a .outgoing)) 
   unfolding packRegistrarAnswer packOutcome packFault
   registrar-fault-back = ap readFaultOf registrar-placed ∙ rw (four-back (a .fault .at .0 / 4294967296), four-back (a .fault .at .0 % 4294967296), eight-back (a .fault .at .0))
 
-  registrar-slot-back : a .slot .0 < 255 → getD (packAt 0 registrarAnswerBytes (packRegistrarAnswer a) b) 13 0 ≡ a .slot .0
+  registrar-slot-back : a .slot .0 < 255 → getD (packAt 0 registrarAnswerBytes (packRegistrarAnswer a) b) registrarSlotAt 0 ≡ a .slot .0
   unfolding packRegistrarAnswer packOutcome packFault
-  registrar-slot-back h = ap (λ (l : List ℕ). getD l 13 0) registrar-placed ∙ rw (lt-ltb (a .slot .0) 255 h)
+  registrar-slot-back h = ap (λ (l : List ℕ). getD l registrarSlotAt 0) registrar-placed ∙ rw (lt-ltb (a .slot .0) 255 h)
 
-  pub registrar-sends-back : flagAt 14 (packAt 0 registrarAnswerBytes (packRegistrarAnswer a) b) ≡ a .sends
+  pub registrar-sends-back : flagAt registrarSendsAt (packAt 0 registrarAnswerBytes (packRegistrarAnswer a) b) ≡ a .sends
   unfolding packRegistrarAnswer packOutcome packFault
-  registrar-sends-back = ap (flagAt 14) registrar-placed ∙ flag-back (a .sends)
+  registrar-sends-back = ap (flagAt registrarSendsAt) registrar-placed ∙ flag-back (a .sends)
 
-  pub registrar-outgoing-back : outgoingOf (drop 15 (packAt 0 registrarAnswerBytes (packRegistrarAnswer a) b)) ≡ a .outgoing
+  pub registrar-outgoing-back : outgoingOf (drop registrarOutgoingAt (packAt 0 registrarAnswerBytes (packRegistrarAnswer a) b)) ≡ a .outgoing
   unfolding packRegistrarAnswer packOutcome packFault
-  registrar-outgoing-back = ap (λ (l : List ℕ). outgoingOf (drop 15 l)) registrar-placed ∙ outgoing-back (a .outgoing) z (drop registrarAnswerBytes b)
+  registrar-outgoing-back = ap (λ (l : List ℕ). outgoingOf (drop registrarOutgoingAt l)) registrar-placed ∙ outgoing-back (a .outgoing) z (drop registrarAnswerBytes b)
 
   -- all of the answer
   pub registrar-back : OutcomeBack (a .outcome) → a .slot .0 < 255 → (s : List ℕ) → unpackTable s .table ≡ a .table
@@ -80,13 +74,13 @@ module _ (a : RegistrarAnswer) (b : List ℕ) (z : OutgoingSized (a .outgoing)) 
   registrar-back o h s e = rw (registrar-outcome-back o, registrar-fault-back, registrar-slot-back h, registrar-sends-back, registrar-outgoing-back, e)
 
   -- the code and the refusal's number at their places
-  pub registrar-code-at : getD (packAt 0 registrarAnswerBytes (packRegistrarAnswer a) b) 0 0 ≡ outcomeNumber (a .outcome)
+  pub registrar-code-at : getD (packAt 0 registrarAnswerBytes (packRegistrarAnswer a) b) answerCodeAt 0 ≡ outcomeNumber (a .outcome)
   unfolding packRegistrarAnswer packOutcome
-  registrar-code-at = ap (λ (l : List ℕ). getD l 0 0) registrar-placed
+  registrar-code-at = ap (λ (l : List ℕ). getD l answerCodeAt 0) registrar-placed
 
-  pub registrar-refusal-at : (n : ℕ) (f : FailureInfo) → a .outcome ≡ Refused n f → getD (packAt 0 registrarAnswerBytes (packRegistrarAnswer a) b) 1 0 ≡ n
+  pub registrar-refusal-at : (n : ℕ) (f : FailureInfo) → a .outcome ≡ Refused n f → getD (packAt 0 registrarAnswerBytes (packRegistrarAnswer a) b) answerRefusalAt 0 ≡ n
   unfolding packRegistrarAnswer packOutcome
-  registrar-refusal-at n f e = ap (λ (l : List ℕ). getD l 1 0) registrar-placed ∙ ap refusalNumber e
+  registrar-refusal-at n f e = ap (λ (l : List ℕ). getD l answerRefusalAt 0) registrar-placed ∙ ap refusalNumber e
 
 module _ (a : EndEntityAnswer) (b : List ℕ) (z : OutgoingSized (a .outgoing)) (r : leb endEntityAnswerBytes (length b) ≡ true) where
   end-entity-length : length (packEndEntityAnswer a) ≡ endEntityAnswerBytes
@@ -100,25 +94,25 @@ module _ (a : EndEntityAnswer) (b : List ℕ) (z : OutgoingSized (a .outgoing)) 
   unfolding packEndEntityAnswer
   end-entity-outcome-back h = ap outcomeOf (end-entity-placed ∙ append-assoc (packOutcome (a .outcome)) _ _) ∙ outcome-back (a .outcome) _ h
 
-  pub end-entity-code-at : getD (packAt 0 endEntityAnswerBytes (packEndEntityAnswer a) b) 0 0 ≡ outcomeNumber (a .outcome)
+  pub end-entity-code-at : getD (packAt 0 endEntityAnswerBytes (packEndEntityAnswer a) b) answerCodeAt 0 ≡ outcomeNumber (a .outcome)
   unfolding packEndEntityAnswer packOutcome
-  end-entity-code-at = ap (λ (l : List ℕ). getD l 0 0) end-entity-placed
+  end-entity-code-at = ap (λ (l : List ℕ). getD l answerCodeAt 0) end-entity-placed
 
-  pub end-entity-refusal-at : (n : ℕ) (f : FailureInfo) → a .outcome ≡ Refused n f → getD (packAt 0 endEntityAnswerBytes (packEndEntityAnswer a) b) 1 0 ≡ n
+  pub end-entity-refusal-at : (n : ℕ) (f : FailureInfo) → a .outcome ≡ Refused n f → getD (packAt 0 endEntityAnswerBytes (packEndEntityAnswer a) b) answerRefusalAt 0 ≡ n
   unfolding packEndEntityAnswer packOutcome
-  end-entity-refusal-at n f e = ap (λ (l : List ℕ). getD l 1 0) end-entity-placed ∙ ap refusalNumber e
+  end-entity-refusal-at n f e = ap (λ (l : List ℕ). getD l answerRefusalAt 0) end-entity-placed ∙ ap refusalNumber e
 
   pub end-entity-fault-back : readFaultOf (packAt 0 endEntityAnswerBytes (packEndEntityAnswer a) b) ≡ a .fault
   unfolding packEndEntityAnswer packOutcome packFault
   end-entity-fault-back = ap readFaultOf end-entity-placed ∙ rw (four-back (a .fault .at .0 / 4294967296), four-back (a .fault .at .0 % 4294967296), eight-back (a .fault .at .0))
 
-  pub end-entity-sends-back : flagAt 13 (packAt 0 endEntityAnswerBytes (packEndEntityAnswer a) b) ≡ a .sends
+  pub end-entity-sends-back : flagAt endEntitySendsAt (packAt 0 endEntityAnswerBytes (packEndEntityAnswer a) b) ≡ a .sends
   unfolding packEndEntityAnswer packOutcome packFault
-  end-entity-sends-back = ap (flagAt 13) end-entity-placed ∙ flag-back (a .sends)
+  end-entity-sends-back = ap (flagAt endEntitySendsAt) end-entity-placed ∙ flag-back (a .sends)
 
-  pub end-entity-outgoing-back : outgoingOf (drop 14 (packAt 0 endEntityAnswerBytes (packEndEntityAnswer a) b)) ≡ a .outgoing
+  pub end-entity-outgoing-back : outgoingOf (drop endEntityOutgoingAt (packAt 0 endEntityAnswerBytes (packEndEntityAnswer a) b)) ≡ a .outgoing
   unfolding packEndEntityAnswer packOutcome packFault
-  end-entity-outgoing-back = ap (λ (l : List ℕ). outgoingOf (drop 14 l)) end-entity-placed ∙ outgoing-back (a .outgoing) z (drop endEntityAnswerBytes b)
+  end-entity-outgoing-back = ap (λ (l : List ℕ). outgoingOf (drop endEntityOutgoingAt l)) end-entity-placed ∙ outgoing-back (a .outgoing) z (drop endEntityAnswerBytes b)
 
   pub end-entity-back : OutcomeBack (a .outcome) → (s : List ℕ) → unpackEnrolment s .enrolment ≡ a .enrolment
       → endEntityAnswerOf (packAt 0 endEntityAnswerBytes (packEndEntityAnswer a) b) s ≡ a

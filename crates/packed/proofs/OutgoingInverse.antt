@@ -1,48 +1,51 @@
 -- A message to be sent reads back as it was packed.
-use Prim.Native.Nat.{ℕ, _+_, _*_, _/_, _%_}
-use mathlib.Core.List.{List, [], _∷_, _++_, append-assoc}
-use mathlib.Core.Bool.{Bool, true, false}
-use mathlib.Core.Path.{_≡_, refl, _∙_, ap}
-use native.Mathlib.Omega.{arith}
+use Prim.Native.Nat.{ℕ}
+use mathlib.Core.List.{List, [], _∷_, _++_, append-nil, append-assoc}
+use mathlib.Core.Path.{_≡_, sym, _∙_, ap}
+use lib.ListN.{length}
 use Rattle.protocol.specs.declared.Outgoing.{Outgoing}
-use lib.Dec.{eqb}
-use Rattle.packed.specs.Bytes.{flag, fourBytes}
-use Rattle.packed.specs.Outgoing.{failureNumber, packNames, packStatus, packOutgoing, outgoingOf, OutgoingSized}
-use Rattle.packed.proofs.FieldLaws.{joined, Laid, field-at, byte-at}
+use Rattle.packed.specs.Places.{idBytes, nonceBytes, hashBytes}
+use Rattle.packed.specs.Outgoing.{failureNumber, failureOf, outgoingBytes, packNames, packStatus, packOutgoing, outgoingOf, OutgoingSized}
+use Rattle.packed.proofs.FieldLaws.{Field, Bytes, Byte, Four, Flag, joined, AllFit, AllRead, read-back, joined-length}
 
-pub flag-back : (b : Bool) → eqb (flag b) 1 ≡ b
-flag-back true = refl
-flag-back false = refl
+abbrev fields : Outgoing → List Field
+fields o =
+    Byte (o .kind)
+    ∷ Bytes idBytes (o .id .bytes)
+    ∷ Bytes nonceBytes (o .«sender_nonce» .bytes)
+    ∷ Flag (o .«has_recip_nonce»)
+    ∷ Bytes nonceBytes (o .«recip_nonce» .bytes)
+    ∷ Flag (o .«has_status»)
+    ∷ Four (o .status)
+    ∷ Bytes hashBytes (o .hash .bytes)
+    ∷ Byte (failureNumber (o .failure))
+    ∷ []
 
-abbrev layout : List ℕ
-layout = 1 ∷ 16 ∷ 16 ∷ 1 ∷ 16 ∷ 1 ∷ 4 ∷ 32 ∷ 1 ∷ []
+module _ (o : Outgoing) (z : OutgoingSized o) where
+  all-fit : AllFit (fields o)
+  all-fit = search
 
-module _ (o : Outgoing) (z : OutgoingSized o) (rest : List ℕ) where
-  abbrev fields : List (List ℕ)
-  fields = (o .kind ∷ []) ∷ o .id .bytes ∷ o .«sender_nonce» .bytes ∷ (flag (o .«has_recip_nonce») ∷ []) ∷ o .«recip_nonce» .bytes ∷ (flag (o .«has_status») ∷ []) ∷ fourBytes (o .status) ∷ o .hash .bytes ∷ (failureNumber (o .failure) ∷ []) ∷ []
+  all-are : (rest : List ℕ) → packOutgoing o ++ rest ≡ joined (fields o) rest
+  unfolding packNames packStatus
+  all-are rest = simp append-assoc
 
-  laid : Laid layout fields
-  laid = (refl, (z .id, (z .sender, (refl, (z .recip, (refl, (refl, (z .hash, (refl, tt)))))))))
+  is-read : (s : List ℕ) → AllRead 0 (fields o) s → outgoingOf s ≡ o
+  unfolding outgoingOf
+  is-read s (kind, (id, (sender-nonce, (has-recip-nonce, (recip-nonce, (has-status, (status, (hash, (failure, _))))))))) =
+      λ i. record {
+        kind = kind i;
+        id = record { bytes = id i };
+        «sender_nonce» = record { bytes = sender-nonce i };
+        «has_recip_nonce» = has-recip-nonce i;
+        «recip_nonce» = record { bytes = recip-nonce i };
+        «has_status» = has-status i;
+        status = status i;
+        hash = record { bytes = hash i };
+        failure = (ap failureOf failure ∙ z .failure) i;
+      }
 
-  pub outgoing-back : outgoingOf (packOutgoing o ++ rest) ≡ o
-  unfolding outgoingOf packNames packStatus
-  outgoing-back =
-      let all-is : packOutgoing o ++ rest ≡ joined fields rest = simp append-assoc in
-      let status : 65536 * (256 * (o .status / 65536 / 256) + o .status / 65536 % 256) + (256 * (o .status % 65536 / 256) + o .status % 65536 % 256) ≡ o .status = omega arith in
-      ap outgoingOf all-is ∙ rw (
-        field-at layout fields laid rest 1 (omega arith),
-        field-at layout fields laid rest 2 (omega arith),
-        byte-at layout fields laid rest 3 0 (omega arith),
-        flag-back (o .«has_recip_nonce»),
-        field-at layout fields laid rest 4 (omega arith),
-        byte-at layout fields laid rest 5 0 (omega arith),
-        flag-back (o .«has_status»),
-        byte-at layout fields laid rest 6 0 (omega arith),
-        byte-at layout fields laid rest 6 1 (omega arith),
-        byte-at layout fields laid rest 6 2 (omega arith),
-        byte-at layout fields laid rest 6 3 (omega arith),
-        status,
-        field-at layout fields laid rest 7 (omega arith),
-        byte-at layout fields laid rest 8 0 (omega arith),
-        z .failure,
-      )
+  pub outgoing-back : (rest : List ℕ) → outgoingOf (packOutgoing o ++ rest) ≡ o
+  outgoing-back rest = is-read _ (rw (all-are rest) (read-back (fields o) all-fit rest))
+
+  pub outgoing-length : length (packOutgoing o) ≡ outgoingBytes
+  outgoing-length = ap length (sym (append-nil (packOutgoing o)) ∙ all-are []) ∙ joined-length (fields o) all-fit []

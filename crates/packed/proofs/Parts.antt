@@ -5,7 +5,7 @@ use mathlib.Core.Path.{_≡_, sym, _∙_, ap}
 use native.Mathlib.Nat.{add-assoc}
 use native.Mathlib.Omega.{arith}
 use lib.ListN.{length, take, drop, getD, length-drop}
-use lib.Seq.{drop-drop, getD-drop, drop-at, getD-append-add, take-add, drop-cons, length-take-le}
+use lib.Seq.{drop-drop, getD-drop, drop-at, take-add, drop-cons, length-take-le}
 use Rattle.packed.specs.Bytes.{part, twoAt, twoBytes, AllBytes}
 
 -- ## The end of a string
@@ -28,9 +28,6 @@ part-length k n s h = length-take-le n (drop k s) (omega (arith, length-drop k s
 module _ (x y : List ℕ) (n : ℕ) (e : length x ≡ n) where
   pub skip : (k m : ℕ) → part (n + k) m (x ++ y) ≡ part k m y
   skip k m = sym (part-drop n k m (x ++ y)) ∙ ap (part k m) (drop-at x y n e)
-
-  pub skip-at : (k : ℕ) → getD (x ++ y) (n + k) 0 ≡ getD y k 0
-  skip-at k = rw (sym e) (getD-append-add x y k 0)
 
 -- ## A string taken apart: its parts make it again
 

@@ -14,6 +14,7 @@ use Rattle.protocol.specs.declared.Transaction.{Transaction}
 use Rattle.protocol.specs.declared.TransactionTable.{TransactionTable}
 use Rattle.protocol.specs.Table.{capacity, freeTransaction, emptyTable}
 use Rattle.packed.specs.Bytes.{Placed}
+use Rattle.packed.specs.Places.{transactionStateAt}
 use Rattle.packed.specs.Table.{transactionBytes, packTransaction, transactionOf, packRows, rowsOf, statesGood}
 use Rattle.packed.proofs.Copies.{next}
 
@@ -43,15 +44,15 @@ pub record Checked (n : ℕ) (s : List ℕ) (i at : ℕ) : Type 0 where
   pub place : at ≡ i * transactionBytes
   pub same : statesGood n s ≡ statesGood (n - i) (drop at s)
 
-step : (n i at : ℕ) (s : List ℕ) (b : Bool) → n ≡ suc i → ltb (getD s (at + 83) 0) 7 ≡ b → statesGood n (drop at s) ≡ (b && statesGood i (drop (at + transactionBytes) s))
+step : (n i at : ℕ) (s : List ℕ) (b : Bool) → n ≡ suc i → ltb (getD s (at + transactionStateAt) 0) 7 ≡ b → statesGood n (drop at s) ≡ (b && statesGood i (drop (at + transactionBytes) s))
 unfolding statesGood
-step n i at s b e h = rw e (cc (h, getD-drop at s 83 0, drop-drop transactionBytes at s))
+step n i at s b e h = rw e (cc (h, getD-drop at s transactionStateAt 0, drop-drop transactionBytes at s))
 
 module _ {n : ℕ} {s : List ℕ} {i at : ℕ} (c : Checked n s i at) where
-  pub check-no : i < n → 7 ≤ getD s (at + 83) 0 → statesGood n s ≡ false
+  pub check-no : i < n → 7 ≤ getD s (at + transactionStateAt) 0 → statesGood n s ≡ false
   check-no k h = c .same ∙ step (n - i) (n - i - 1) at s false (omega arith) (le-ltb _ _ h)
 
-  pub check-more : i < n → getD s (at + 83) 0 < 7 → Checked n s (i + 1) (at + transactionBytes)
+  pub check-more : i < n → getD s (at + transactionStateAt) 0 < 7 → Checked n s (i + 1) (at + transactionBytes)
   check-more k h =
       record {
         below = omega arith;

@@ -1,8 +1,8 @@
 -- Packing and unpacking a table are inverse to each other.
-use Prim.Native.Nat.{ℕ, zero, suc, _+_, _*_, _/_, _%_, _<_, _≤_}
-use mathlib.Core.List.{List, [], _∷_, _++_, append-assoc}
+use Prim.Native.Nat.{ℕ, zero, suc, _+_, _*_, _<_, _≤_}
+use mathlib.Core.List.{List, [], _∷_, _++_, append-nil, append-assoc}
 use mathlib.Core.Bool.{true}
-use mathlib.Core.Path.{_≡_, refl, _∙_, ap}
+use mathlib.Core.Path.{_≡_, refl, sym, _∙_, ap}
 use native.Mathlib.Omega.{arith}
 use borrow.Author.Tests.{lt-ltb, eq-eqb, ltb-true, eqb-true}
 use lib.Dec.{eqb, ltb}
@@ -15,12 +15,13 @@ use Rattle.protocol.specs.declared.TransactionState.the-variants.{Free, Asked, 
 use Rattle.protocol.specs.declared.TransactionTable.{TransactionTable}
 use Rattle.protocol.specs.Table.{capacity}
 use Rattle.packed.specs.declared.table.UnpackedTable.{UnpackedTable}
-use Rattle.packed.specs.Bytes.{twoBytes, AllBytes}
-use Rattle.packed.specs.Table.{transactionStateNumber, transactionStateOf, transactionBytes, packTransaction, transactionOf, tableBytes, packRows, rowsOf, statesGood, packTable, unpackTable, TransactionSized, AllSized, TableSized}
+use Rattle.packed.specs.Bytes.{AllBytes}
+use Rattle.packed.specs.Places.{idBytes, nonceBytes, hashBytes, transactionIdAt, transactionTakenAt, transactionSentAt, transactionHashAt, transactionStateAt}
+use Rattle.packed.specs.Table.{transactionStateNumber, transactionStateOf, transactionBytes, packRequest, packProgress, packTransaction, transactionOf, tableBytes, packRows, rowsOf, statesGood, packTable, unpackTable, TransactionSized, AllSized, TableSized}
 use Rattle.packed.proofs.Tests.{both}
-use Rattle.packed.proofs.Parts.{bytes-drop, part-length, join, one, two}
+use Rattle.packed.proofs.Parts.{bytes-drop, part-length}
 use Rattle.packed.proofs.Rows.{length-rows}
-use Rattle.packed.proofs.FieldLaws.{joined, Laid, field-at, byte-at}
+use Rattle.packed.proofs.FieldLaws.{Field, Bytes, Byte, Two, joined, AllFit, AllRead, read-back, joined-length, made-again}
 
 -- ## A state
 
@@ -56,43 +57,49 @@ number-of (suc (suc (suc (suc (suc (suc (suc n))))))) h = absurd (omega arith)
 
 -- ## Unpacking what was packed
 
-abbrev layout : List ℕ
-layout = 16 ∷ 2 ∷ 1 ∷ 16 ∷ 16 ∷ 32 ∷ 1 ∷ []
+abbrev fields : Transaction → List Field
+fields t =
+    Bytes idBytes (t .id .bytes)
+    ∷ Two (t .board .0)
+    ∷ Byte (t .kind)
+    ∷ Bytes nonceBytes (t .taken .bytes)
+    ∷ Bytes nonceBytes (t .sent .bytes)
+    ∷ Bytes hashBytes (t .hash .bytes)
+    ∷ Byte (transactionStateNumber (t .state))
+    ∷ []
 
-module _ (t : Transaction) (z : TransactionSized t) (rest : List ℕ) where
-  abbrev fields : List (List ℕ)
-  fields = t .id .bytes ∷ twoBytes (t .board .0) ∷ (t .kind ∷ []) ∷ t .taken .bytes ∷ t .sent .bytes ∷ t .hash .bytes ∷ (transactionStateNumber (t .state) ∷ []) ∷ []
+all-fit : (t : Transaction) → TransactionSized t → AllFit (fields t)
+all-fit t z = search
 
-  laid : Laid layout fields
-  laid = (z .id, (refl, (refl, (z .taken, (z .sent, (z .hash, (refl, tt)))))))
+all-are : (t : Transaction) (rest : List ℕ) → packTransaction t ++ rest ≡ joined (fields t) rest
+unfolding packRequest packProgress
+all-are t rest = simp append-assoc
 
-  all-is : packTransaction t ++ rest ≡ joined fields rest
-  unfolding packTransaction
-  all-is = simp append-assoc
+packed-is : (t : Transaction) → packTransaction t ≡ joined (fields t) []
+packed-is t = sym (append-nil (packTransaction t)) ∙ all-are t []
 
-  state-at : getD (joined fields rest) 83 0 ≡ transactionStateNumber (t .state)
-  state-at = byte-at layout fields laid rest 6 0 (omega arith)
+is-read : (t : Transaction) (s : List ℕ) → AllRead 0 (fields t) s → transactionOf s ≡ t
+unfolding transactionOf
+is-read t s (id, (board, (kind, (taken, (sent, (hash, (state, _))))))) =
+    λ i. record {
+      id = record { bytes = id i };
+      board = record { 0 = board i };
+      kind = kind i;
+      taken = record { bytes = taken i };
+      sent = record { bytes = sent i };
+      hash = record { bytes = hash i };
+      state = (ap transactionStateOf state ∙ of-number (t .state)) i;
+    }
 
-  transaction-back : transactionOf (packTransaction t ++ rest) ≡ t
-  unfolding transactionOf
-  transaction-back =
-      let board : 256 * (t .board .0 / 256) + t .board .0 % 256 ≡ t .board .0 = omega arith in
-      ap transactionOf all-is ∙ rw (
-        field-at layout fields laid rest 0 (omega arith),
-        byte-at layout fields laid rest 1 0 (omega arith),
-        byte-at layout fields laid rest 1 1 (omega arith),
-        board,
-        byte-at layout fields laid rest 2 0 (omega arith),
-        field-at layout fields laid rest 3 (omega arith),
-        field-at layout fields laid rest 4 (omega arith),
-        field-at layout fields laid rest 5 (omega arith),
-        byte-at layout fields laid rest 6 0 (omega arith),
-        of-number (t .state),
-      )
+state-read : (t : Transaction) (s : List ℕ) → AllRead 0 (fields t) s → getD s transactionStateAt 0 ≡ transactionStateNumber (t .state)
+state-read t s h = cc
 
-pub packed-length : (t : Transaction) → TransactionSized t → length (packTransaction t) ≡ transactionBytes
-unfolding packTransaction
-packed-length t z = simp length-append (omega (arith, z .id, z .taken, z .sent, z .hash))
+module _ (t : Transaction) (z : TransactionSized t) where
+  packed-read : (rest : List ℕ) → AllRead 0 (fields t) (packTransaction t ++ rest)
+  packed-read rest = rw (all-are t rest) (read-back (fields t) (all-fit t z) rest)
+
+  pub packed-length : length (packTransaction t) ≡ transactionBytes
+  packed-length = ap length (packed-is t) ∙ joined-length (fields t) (all-fit t z) []
 
 rows-length : (ts : List Transaction) → AllSized ts → length (packRows ts) ≡ length ts * transactionBytes
 unfolding packRows
@@ -103,13 +110,13 @@ rows-back : (ts : List Transaction) → AllSized ts → rowsOf (length ts) (pack
 unfolding rowsOf packRows
 rows-back [] z = refl
 rows-back (t ∷ ts) z =
-    cc (transaction-back t (z .0) (packRows ts), drop-at (packTransaction t) (packRows ts) transactionBytes (packed-length t (z .0)), rows-back ts (z .1))
+    cc (is-read t _ (packed-read t (z .0) (packRows ts)), drop-at (packTransaction t) (packRows ts) transactionBytes (packed-length t (z .0)), rows-back ts (z .1))
 
 states-back : (ts : List Transaction) → AllSized ts → statesGood (length ts) (packRows ts) ≡ true
 unfolding statesGood packRows
 states-back [] z = refl
 states-back (t ∷ ts) z =
-    let state : ltb (getD (packTransaction t ++ packRows ts) 83 0) 7 ≡ true = rw (all-is t (z .0) (packRows ts), state-at t (z .0) (packRows ts)) (lt-ltb _ _ (below (t .state))) in
+    let state : ltb (getD (packTransaction t ++ packRows ts) transactionStateAt 0) 7 ≡ true = rw (state-read t _ (packed-read t (z .0) (packRows ts))) (lt-ltb _ _ (below (t .state))) in
     cc (state, drop-at (packTransaction t) (packRows ts) transactionBytes (packed-length t (z .0)), states-back ts (z .1))
 
 pub unpack-packed : (t : TransactionTable) → TableSized t → unpackTable (packTable t) ≡ record { ok = true; table = t }
@@ -122,24 +129,18 @@ unpack-packed t z =
 
 -- ## Packing what was unpacked
 
-transaction-again : (s : List ℕ) → AllBytes s → transactionBytes ≤ length s → getD s 83 0 < 7 → packTransaction (transactionOf s) ≡ take transactionBytes s
-unfolding packTransaction transactionOf
+transaction-again : (s : List ℕ) → AllBytes s → transactionBytes ≤ length s → getD s transactionStateAt 0 < 7 → packTransaction (transactionOf s) ≡ take transactionBytes s
+unfolding transactionOf
 transaction-again s b h n =
-    join s 0 16 68 refl (
-    join s 16 2 66 (two s 16 b (omega arith)) (
-    join s 18 1 65 (one s 18 (omega arith) refl) (
-    join s 19 16 49 refl (
-    join s 35 16 33 refl (
-    join s 51 32 1 refl (
-    one s 83 (omega arith) (number-of (getD s 83 0) n)))))))
+    packed-is (transactionOf s) ∙ made-again (fields (transactionOf s)) 0 s h (refl, ((refl, b), (refl, (refl, (refl, (refl, (number-of _ n, tt)))))))
 
 rows-again : (n : ℕ) (s : List ℕ) → AllBytes s → n * transactionBytes ≤ length s → statesGood n s ≡ true → packRows (rowsOf n s) ≡ take (n * transactionBytes) s
 unfolding packRows rowsOf statesGood
 rows-again zero s b h g = refl
 rows-again (suc n) s b h g =
-    let first : packTransaction (transactionOf s) ≡ take transactionBytes s = transaction-again s b (omega arith) (ltb-true _ _ (and-left (ltb (getD s 83 0) 7) _ g)) in
+    let first : packTransaction (transactionOf s) ≡ take transactionBytes s = transaction-again s b (omega arith) (ltb-true _ _ (and-left (ltb (getD s transactionStateAt 0) 7) _ g)) in
     let others : packRows (rowsOf n (drop transactionBytes s)) ≡ take (n * transactionBytes) (drop transactionBytes s) =
-    rows-again n (drop transactionBytes s) (bytes-drop transactionBytes s b) (omega (arith, length-drop transactionBytes s)) (and-right (ltb (getD s 83 0) 7) _ g)
+    rows-again n (drop transactionBytes s) (bytes-drop transactionBytes s b) (omega (arith, length-drop transactionBytes s)) (and-right (ltb (getD s transactionStateAt 0) 7) _ g)
     in
     let size : transactionBytes + n * transactionBytes ≡ suc n * transactionBytes = omega arith in
     rw (first, others, ← take-add transactionBytes (n * transactionBytes) s, size)
@@ -157,7 +158,7 @@ rows-sized : (n : ℕ) (s : List ℕ) → n * transactionBytes ≤ length s → 
 unfolding rowsOf transactionOf
 rows-sized zero s h = tt
 rows-sized (suc n) s h = (
-  record { id = part-length 0 16 s (omega arith); taken = part-length 19 16 s (omega arith); sent = part-length 35 16 s (omega arith); hash = part-length 51 32 s (omega arith) },
+  record { id = part-length transactionIdAt idBytes s (omega arith); taken = part-length transactionTakenAt nonceBytes s (omega arith); sent = part-length transactionSentAt nonceBytes s (omega arith); hash = part-length transactionHashAt hashBytes s (omega arith) },
   rows-sized n (drop transactionBytes s) (omega (arith, length-drop transactionBytes s)),
 )
 

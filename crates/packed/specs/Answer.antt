@@ -11,6 +11,7 @@ use Rattle.protocol.specs.declared.Outcome.the-variants.{Done, Again, Refused}
 use Rattle.protocol.specs.declared.RegistrarAnswer.{RegistrarAnswer}
 use Rattle.protocol.specs.declared.EndEntityAnswer.{EndEntityAnswer}
 use Rattle.packed.specs.Bytes.{flag, flagAt, eightBytes, eightAt}
+use Rattle.packed.specs.Places.{answerCodeAt, answerRefusalAt, answerBitAt, answerFaultAt, answerOffsetAt, answerRuleAt, registrarSlotAt, registrarSendsAt, registrarOutgoingAt, registrarEnd, endEntitySendsAt, endEntityOutgoingAt, endEntityEnd}
 use Rattle.packed.specs.Outgoing.{failureNumber, failureOf, packOutgoing, outgoingOf}
 use Rattle.packed.specs.Table.{unpackTable}
 use Rattle.packed.specs.Enrolment.{unpackEnrolment}
@@ -49,7 +50,7 @@ abbrev pub slotByte : ℕ → ℕ
 slotByte n = cond (ltb n 255) n 255
 
 abbrev pub registrarAnswerBytes : ℕ
-registrarAnswerBytes = 103
+registrarAnswerBytes = registrarEnd
 
 unfoldable pub packRegistrarAnswer : RegistrarAnswer → List ℕ
 packRegistrarAnswer a =
@@ -60,7 +61,7 @@ packRegistrarAnswer a =
     packOutgoing (a .outgoing))))
 
 abbrev pub endEntityAnswerBytes : ℕ
-endEntityAnswerBytes = 102
+endEntityAnswerBytes = endEntityEnd
 
 unfoldable pub packEndEntityAnswer : EndEntityAnswer → List ℕ
 packEndEntityAnswer a =
@@ -72,19 +73,19 @@ packEndEntityAnswer a =
 -- ## What the bytes say: of an answer b, with the state s after the call
 
 unfoldable pub outcomeOf : List ℕ → Outcome
-outcomeOf b = cond (eqb (getD b 0 0) 0) Done (cond (eqb (getD b 0 0) 1) Again (Refused (getD b 1 0) (failureOf (getD b 2 0))))
+outcomeOf b = cond (eqb (getD b answerCodeAt 0) 0) Done (cond (eqb (getD b answerCodeAt 0) 1) Again (Refused (getD b answerRefusalAt 0) (failureOf (getD b answerBitAt 0))))
 
 abbrev pub readFaultOf : List ℕ → ReadFault
-readFaultOf b = record { number = getD b 3 0; at = record { 0 = eightAt 4 b }; rule = getD b 12 0 }
+readFaultOf b = record { number = getD b answerFaultAt 0; at = record { 0 = eightAt answerOffsetAt b }; rule = getD b answerRuleAt 0 }
 
 unfoldable pub registrarAnswerOf : (b s : List ℕ) → RegistrarAnswer
 registrarAnswerOf b s =
     record {
       outcome = outcomeOf b;
       fault = readFaultOf b;
-      slot = record { 0 = getD b 13 0 };
-      sends = flagAt 14 b;
-      outgoing = outgoingOf (drop 15 b);
+      slot = record { 0 = getD b registrarSlotAt 0 };
+      sends = flagAt registrarSendsAt b;
+      outgoing = outgoingOf (drop registrarOutgoingAt b);
       table = unpackTable s .table;
     }
 
@@ -93,8 +94,8 @@ endEntityAnswerOf b s =
     record {
       outcome = outcomeOf b;
       fault = readFaultOf b;
-      sends = flagAt 13 b;
-      outgoing = outgoingOf (drop 14 b);
+      sends = flagAt endEntitySendsAt b;
+      outgoing = outgoingOf (drop endEntityOutgoingAt b);
       enrolment = unpackEnrolment s .enrolment;
     }
 

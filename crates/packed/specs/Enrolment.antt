@@ -1,4 +1,4 @@
--- An enrolment in bytes: 82 of them.
+-- An enrolment in bytes.
 use Prim.Native.Nat.{ℕ}
 use mathlib.Core.List.{List, [], _∷_, _++_}
 use mathlib.Core.Bool.{true, false, cond}
@@ -11,6 +11,7 @@ use Rattle.protocol.specs.declared.EnrolmentState.the-variants.{Asked, Confirmi
 use Rattle.protocol.specs.EndEntity.{noEnrolment}
 use Rattle.packed.specs.declared.enrolment.UnpackedEnrolment.{UnpackedEnrolment}
 use Rattle.packed.specs.Bytes.{part}
+use Rattle.packed.specs.Places.{idBytes, nonceBytes, hashBytes, enrolmentIdAt, enrolmentKindAt, enrolmentLastAt, enrolmentTakenAt, enrolmentHashAt, enrolmentStateAt, enrolmentEnd}
 
 -- ## A state
 
@@ -36,7 +37,7 @@ enrolmentStateOf n =
 -- ## An enrolment
 
 abbrev pub enrolmentBytes : ℕ
-enrolmentBytes = 82
+enrolmentBytes = enrolmentEnd
 
 unfoldable pub packEnrolment : Enrolment → List ℕ
 packEnrolment x =
@@ -50,12 +51,12 @@ packEnrolment x =
 unfoldable pub enrolmentOf : List ℕ → Enrolment
 enrolmentOf s =
     record {
-      id = record { bytes = part 0 16 s };
-      kind = getD s 16 0;
-      last = record { bytes = part 17 16 s };
-      taken = record { bytes = part 33 16 s };
-      hash = record { bytes = part 49 32 s };
-      state = enrolmentStateOf (getD s 81 0);
+      id = record { bytes = part enrolmentIdAt idBytes s };
+      kind = getD s enrolmentKindAt 0;
+      last = record { bytes = part enrolmentLastAt nonceBytes s };
+      taken = record { bytes = part enrolmentTakenAt nonceBytes s };
+      hash = record { bytes = part enrolmentHashAt hashBytes s };
+      state = enrolmentStateOf (getD s enrolmentStateAt 0);
     }
 
 -- ## The two calls
@@ -65,7 +66,7 @@ noneUnpacked = record { ok = false; enrolment = noEnrolment }
 
 unfoldable pub unpackEnrolment : List ℕ → UnpackedEnrolment
 unpackEnrolment s =
-    cond (eqb (length s) enrolmentBytes) (cond (ltb (getD s 81 0) 7) (record { ok = true; enrolment = enrolmentOf s }) noneUnpacked) noneUnpacked
+    cond (eqb (length s) enrolmentBytes) (cond (ltb (getD s enrolmentStateAt 0) 7) (record { ok = true; enrolment = enrolmentOf s }) noneUnpacked) noneUnpacked
 
 -- bytes of another length stay as they are
 unfoldable pub packEnrolmentIn : Enrolment → List ℕ → List ℕ
@@ -73,7 +74,7 @@ packEnrolmentIn x s = cond (eqb (length s) enrolmentBytes) (packEnrolment x) s
 
 -- for the theorems: the arrays have their lengths. Numbers need no bound there
 pub record EnrolmentSized (x : Enrolment) : Type 0 where
-  pub id : length (x .id .bytes) ≡ 16
-  pub last : length (x .last .bytes) ≡ 16
-  pub taken : length (x .taken .bytes) ≡ 16
-  pub hash : length (x .hash .bytes) ≡ 32
+  pub id : length (x .id .bytes) ≡ idBytes
+  pub last : length (x .last .bytes) ≡ nonceBytes
+  pub taken : length (x .taken .bytes) ≡ nonceBytes
+  pub hash : length (x .hash .bytes) ≡ hashBytes

@@ -3,4 +3,5 @@ pub mod Arrays
 pub mod Bytes
 pub mod Enrolment
 pub mod Outgoing
+pub mod Places
 pub mod Table

@@ -1,4 +1,4 @@
--- A message to be sent, in bytes: 88 of them, at an offset of an answer.
+-- A message to be sent, in bytes, at an offset of an answer.
 use Prim.Native.Nat.{ℕ}
 use mathlib.Core.List.{List, [], _∷_, _++_}
 use mathlib.Core.Bool.{cond}
@@ -9,6 +9,7 @@ use Rattle.protocol.specs.declared.FailureInfo.{FailureInfo}
 use Rattle.protocol.specs.declared.FailureInfo.the-variants.{NoBit, Bit}
 use Rattle.protocol.specs.declared.Outgoing.{Outgoing}
 use Rattle.packed.specs.Bytes.{part, flag, flagAt, fourBytes, fourAt}
+use Rattle.packed.specs.Places.{idBytes, nonceBytes, hashBytes, outgoingKindAt, outgoingIdAt, outgoingSenderNonceAt, outgoingHasRecipNonceAt, outgoingRecipNonceAt, outgoingHasStatusAt, outgoingStatusAt, outgoingHashAt, outgoingFailureAt, outgoingEnd}
 
 -- a PKIFailureInfo bit; 255: none
 abbrev pub failureNumber : FailureInfo → ℕ
@@ -19,7 +20,7 @@ abbrev pub failureOf : ℕ → FailureInfo
 failureOf n = cond (eqb n 255) NoBit (Bit n)
 
 abbrev pub outgoingBytes : ℕ
-outgoingBytes = 88
+outgoingBytes = outgoingEnd
 
 -- kind, id and nonces
 unfoldable pub packNames : Outgoing → List ℕ
@@ -45,21 +46,21 @@ packOutgoing o = packNames o ++ packStatus o
 unfoldable pub outgoingOf : List ℕ → Outgoing
 outgoingOf s =
     record {
-      kind = getD s 0 0;
-      id = record { bytes = part 1 16 s };
-      «sender_nonce» = record { bytes = part 17 16 s };
-      «has_recip_nonce» = flagAt 33 s;
-      «recip_nonce» = record { bytes = part 34 16 s };
-      «has_status» = flagAt 50 s;
-      status = fourAt 51 s;
-      hash = record { bytes = part 55 32 s };
-      failure = failureOf (getD s 87 0);
+      kind = getD s outgoingKindAt 0;
+      id = record { bytes = part outgoingIdAt idBytes s };
+      «sender_nonce» = record { bytes = part outgoingSenderNonceAt nonceBytes s };
+      «has_recip_nonce» = flagAt outgoingHasRecipNonceAt s;
+      «recip_nonce» = record { bytes = part outgoingRecipNonceAt nonceBytes s };
+      «has_status» = flagAt outgoingHasStatusAt s;
+      status = fourAt outgoingStatusAt s;
+      hash = record { bytes = part outgoingHashAt hashBytes s };
+      failure = failureOf (getD s outgoingFailureAt 0);
     }
 
 -- for the theorems: the arrays have their lengths, and no bit is 255
 pub record OutgoingSized (o : Outgoing) : Type 0 where
-  pub id : length (o .id .bytes) ≡ 16
-  pub sender : length (o .«sender_nonce» .bytes) ≡ 16
-  pub recip : length (o .«recip_nonce» .bytes) ≡ 16
-  pub hash : length (o .hash .bytes) ≡ 32
+  pub id : length (o .id .bytes) ≡ idBytes
+  pub sender : length (o .«sender_nonce» .bytes) ≡ nonceBytes
+  pub recip : length (o .«recip_nonce» .bytes) ≡ nonceBytes
+  pub hash : length (o .hash .bytes) ≡ hashBytes
   pub failure : failureOf (failureNumber (o .failure)) ≡ o .failure

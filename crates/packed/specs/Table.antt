@@ -1,4 +1,4 @@
--- The transaction table in bytes: its slots one after the other, each 84 bytes.
+-- The transaction table in bytes: its slots one after the other.
 use Prim.Native.Nat.{ℕ, zero, suc, _*_}
 use mathlib.Core.List.{List, [], _∷_, _++_}
 use mathlib.Core.Bool.{Bool, true, false, cond, _&&_}
@@ -12,6 +12,7 @@ use Rattle.protocol.specs.declared.TransactionTable.{TransactionTable}
 use Rattle.protocol.specs.Table.{capacity, emptyTable}
 use Rattle.packed.specs.declared.table.UnpackedTable.{UnpackedTable}
 use Rattle.packed.specs.Bytes.{part, twoAt, twoBytes}
+use Rattle.packed.specs.Places.{idBytes, nonceBytes, hashBytes, transactionIdAt, transactionBoardAt, transactionKindAt, transactionTakenAt, transactionSentAt, transactionHashAt, transactionStateAt, transactionEnd}
 
 -- ## A state
 
@@ -37,29 +38,37 @@ transactionStateOf n =
 -- ## A transaction
 
 abbrev pub transactionBytes : ℕ
-transactionBytes = 84
+transactionBytes = transactionEnd
 
-unfoldable pub packTransaction : Transaction → List ℕ
-packTransaction t =
+-- id, board and kind
+unfoldable pub packRequest : Transaction → List ℕ
+packRequest t =
     t .id .bytes ++ (
     twoBytes (t .board .0) ++ (
-    (t .kind ∷ []) ++ (
+    t .kind ∷ []))
+
+-- nonces, hash and state
+unfoldable pub packProgress : Transaction → List ℕ
+packProgress t =
     t .taken .bytes ++ (
     t .sent .bytes ++ (
     t .hash .bytes ++ (
-    transactionStateNumber (t .state) ∷ []))))))
+    transactionStateNumber (t .state) ∷ [])))
+
+abbrev pub packTransaction : Transaction → List ℕ
+packTransaction t = packRequest t ++ packProgress t
 
 -- from the first bytes of a string
 unfoldable pub transactionOf : List ℕ → Transaction
 transactionOf s =
     record {
-      id = record { bytes = part 0 16 s };
-      board = record { 0 = twoAt 16 s };
-      kind = getD s 18 0;
-      taken = record { bytes = part 19 16 s };
-      sent = record { bytes = part 35 16 s };
-      hash = record { bytes = part 51 32 s };
-      state = transactionStateOf (getD s 83 0);
+      id = record { bytes = part transactionIdAt idBytes s };
+      board = record { 0 = twoAt transactionBoardAt s };
+      kind = getD s transactionKindAt 0;
+      taken = record { bytes = part transactionTakenAt nonceBytes s };
+      sent = record { bytes = part transactionSentAt nonceBytes s };
+      hash = record { bytes = part transactionHashAt hashBytes s };
+      state = transactionStateOf (getD s transactionStateAt 0);
     }
 
 -- ## The table
@@ -79,7 +88,7 @@ rowsOf (suc n) s = transactionOf s ∷ rowsOf n (drop transactionBytes s)
 -- each of the first n state bytes is a state
 unfoldable pub statesGood : ℕ → List ℕ → Bool
 statesGood zero s = true
-statesGood (suc n) s = ltb (getD s 83 0) 7 && statesGood n (drop transactionBytes s)
+statesGood (suc n) s = ltb (getD s transactionStateAt 0) 7 && statesGood n (drop transactionBytes s)
 
 abbrev pub packTable : TransactionTable → List ℕ
 packTable t = packRows (t .transactions)
@@ -102,10 +111,10 @@ packTableIn t s = cond (eqb (length s) tableBytes) (packTable t) s
 -- ## For the theorems: the arrays have their lengths. Numbers need no bound there
 
 pub record TransactionSized (t : Transaction) : Type 0 where
-  pub id : length (t .id .bytes) ≡ 16
-  pub taken : length (t .taken .bytes) ≡ 16
-  pub sent : length (t .sent .bytes) ≡ 16
-  pub hash : length (t .hash .bytes) ≡ 32
+  pub id : length (t .id .bytes) ≡ idBytes
+  pub taken : length (t .taken .bytes) ≡ nonceBytes
+  pub sent : length (t .sent .bytes) ≡ nonceBytes
+  pub hash : length (t .hash .bytes) ≡ hashBytes
 
 abbrev pub AllSized : List Transaction → Type 0
 AllSized [] = Unit {0}

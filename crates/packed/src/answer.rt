@@ -2,9 +2,9 @@
 use crate::bytes::put_1;
 use crate::bytes::put_8;
 use crate::bytes::put_flag;
-use crate::outgoing::OUTGOING_BYTES;
 use crate::outgoing::failure_number;
 use crate::outgoing::put_outgoing;
+use crate::places;
 use message::ReadFault;
 use protocol::EndEntityAnswer;
 use protocol::Outcome;
@@ -14,11 +14,12 @@ ghost use mathlib.Core.Path.{_≡_};
 ghost use Prim.Native.Nat.{_≤_};
 ghost use lib.ListN.{length};
 ghost use Rattle.packed.specs.Bytes.{Placed, fitsAt, packAt};
+ghost use Rattle.packed.specs.Places.{answerCodeAt, answerFaultAt, answerOwnAt, faultPartBytes};
 ghost use Rattle.packed.specs.Answer.{outcomeNumber, refusalNumber, refusalBit, packOutcome, packFault, slotByte, registrarAnswerBytes, packRegistrarAnswer, endEntityAnswerBytes, packEndEntityAnswer};
 
-pub const REGISTRAR_ANSWER_BYTES: usize = 15 + OUTGOING_BYTES;
+pub const REGISTRAR_ANSWER_BYTES: usize = places::REGISTRAR_END;
 
-pub const END_ENTITY_ANSWER_BYTES: usize = 14 + OUTGOING_BYTES;
+pub const END_ENTITY_ANSWER_BYTES: usize = places::END_ENTITY_END;
 
 fn outcome_number(o: Outcome) -> u8
     ensures { λ r. ⌜ r ≡ outcomeNumber o ⌝ }
@@ -51,22 +52,22 @@ fn refusal_bit(o: Outcome) -> u8
 }
 
 fn put_outcome(bytes: &mut [u8], o: Outcome)
-    requires { ⌜ 3 ≤ length (now bytes) ⌝ }
-    ensures { λ _. ⌜ Placed 0 3 (packOutcome o) (now (bytes .entry)) (now (bytes .exit)) ⌝ }
+    requires { ⌜ answerFaultAt ≤ length (now bytes) ⌝ }
+    ensures { λ _. ⌜ Placed answerCodeAt answerFaultAt (packOutcome o) (now (bytes .entry)) (now (bytes .exit)) ⌝ }
 {
-    put_1(bytes, 0, outcome_number(o));
-    put_1(bytes, 1, refusal_number(o));
-    put_1(bytes, 2, refusal_bit(o));
+    put_1(bytes, places::ANSWER_CODE, outcome_number(o));
+    put_1(bytes, places::ANSWER_REFUSAL, refusal_number(o));
+    put_1(bytes, places::ANSWER_BIT, refusal_bit(o));
 }
 
 fn put_fault(bytes: &mut [u8], f: ReadFault)
-    requires { ⌜ 13 ≤ length (now bytes) ⌝ }
-    ensures { λ _. ⌜ Placed 3 10 (packFault f) (now (bytes .entry)) (now (bytes .exit)) ⌝ }
+    requires { ⌜ answerOwnAt ≤ length (now bytes) ⌝ }
+    ensures { λ _. ⌜ Placed answerFaultAt faultPartBytes (packFault f) (now (bytes .entry)) (now (bytes .exit)) ⌝ }
 {
     let at = f.at;
-    put_1(bytes, 3, f.number);
-    put_8(bytes, 4, at.0 as u64);
-    put_1(bytes, 12, f.rule);
+    put_1(bytes, places::ANSWER_FAULT, f.number);
+    put_8(bytes, places::ANSWER_OFFSET, at.0 as u64);
+    put_1(bytes, places::ANSWER_RULE, f.rule);
 }
 
 fn slot_byte(s: Slot) -> u8
@@ -85,9 +86,9 @@ pub fn pack_registrar_answer(bytes: &mut [u8], a: RegistrarAnswer) -> bool
     let outcome = a.outcome;
     put_outcome(bytes, outcome);
     put_fault(bytes, a.fault);
-    put_1(bytes, 13, slot_byte(a.slot));
-    put_flag(bytes, 14, a.sends);
-    put_outgoing(bytes, 15, a.outgoing);
+    put_1(bytes, places::REGISTRAR_SLOT, slot_byte(a.slot));
+    put_flag(bytes, places::REGISTRAR_SENDS, a.sends);
+    put_outgoing(bytes, places::REGISTRAR_OUTGOING, a.outgoing);
     true
 }
 
@@ -101,7 +102,7 @@ pub fn pack_end_entity_answer(bytes: &mut [u8], a: EndEntityAnswer) -> bool
     let outcome = a.outcome;
     put_outcome(bytes, outcome);
     put_fault(bytes, a.fault);
-    put_flag(bytes, 13, a.sends);
-    put_outgoing(bytes, 14, a.outgoing);
+    put_flag(bytes, places::END_ENTITY_SENDS, a.sends);
+    put_outgoing(bytes, places::END_ENTITY_OUTGOING, a.outgoing);
     true
 }

@@ -4,6 +4,7 @@ use crate::bytes::get_32;
 use crate::bytes::put_1;
 use crate::bytes::put_16;
 use crate::bytes::put_32;
+use crate::places;
 use protocol::Enrolment;
 use protocol::EnrolmentState;
 use protocol::Hash;
@@ -16,7 +17,7 @@ ghost use lib.ListN.{length};
 ghost use Rattle.packed.specs.Bytes.{Placed};
 ghost use Rattle.packed.specs.Enrolment.{enrolmentStateNumber, enrolmentStateOf, enrolmentBytes, packEnrolment, enrolmentOf, noneUnpacked, unpackEnrolment, packEnrolmentIn};
 
-pub const ENROLMENT_BYTES: usize = 82;
+pub const ENROLMENT_BYTES: usize = places::ENROLMENT_END;
 
 // An enrolment from bytes. Where `ok` is false there was none, and the enrolment is all zeros, at Failed.
 pub struct UnpackedEnrolment {
@@ -56,12 +57,12 @@ fn get_enrolment(bytes: &[u8]) -> Enrolment
     requires { ⌜ enrolmentBytes ≤ length (now bytes) ⌝ }
     ensures { λ r. ⌜ r ≡ enrolmentOf (now (bytes .entry)) ⌝ }
 {
-    let id = get_16(bytes, 0);
-    let kind = bytes[16];
-    let last = get_16(bytes, 17);
-    let taken = get_16(bytes, 33);
-    let hash = get_32(bytes, 49);
-    let state = state_of(bytes[81]);
+    let id = get_16(bytes, places::ENROLMENT_ID);
+    let kind = bytes[places::ENROLMENT_KIND];
+    let last = get_16(bytes, places::ENROLMENT_LAST);
+    let taken = get_16(bytes, places::ENROLMENT_TAKEN);
+    let hash = get_32(bytes, places::ENROLMENT_HASH);
+    let state = state_of(bytes[places::ENROLMENT_STATE]);
     Enrolment {
         id: TransactionId { bytes: id },
         kind,
@@ -93,7 +94,7 @@ pub fn unpack_enrolment(bytes: &[u8]) -> UnpackedEnrolment
     ensures { λ r. ⌜ r ≡ unpackEnrolment (now (bytes .entry)) ⌝ }
 {
     if bytes.len() == ENROLMENT_BYTES {
-        if bytes[81] < 7 {
+        if bytes[places::ENROLMENT_STATE] < 7 {
             let enrolment = get_enrolment(bytes);
             UnpackedEnrolment {
                 ok: true,
@@ -116,12 +117,12 @@ fn put_enrolment(bytes: &mut [u8], x: Enrolment)
     let taken = x.taken.bytes;
     let hash = x.hash.bytes;
     let state = x.state;
-    put_16(bytes, 0, id);
-    put_1(bytes, 16, x.kind);
-    put_16(bytes, 17, last);
-    put_16(bytes, 33, taken);
-    put_32(bytes, 49, hash);
-    put_1(bytes, 81, state_number(state));
+    put_16(bytes, places::ENROLMENT_ID, id);
+    put_1(bytes, places::ENROLMENT_KIND, x.kind);
+    put_16(bytes, places::ENROLMENT_LAST, last);
+    put_16(bytes, places::ENROLMENT_TAKEN, taken);
+    put_32(bytes, places::ENROLMENT_HASH, hash);
+    put_1(bytes, places::ENROLMENT_STATE, state_number(state));
 }
 
 // The enrolment as bytes. False, with nothing changed, where `bytes` is not exactly as long as one.

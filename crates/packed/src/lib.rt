@@ -4,4 +4,5 @@ pub mod arrays;
 mod bytes;
 pub mod enrolment;
 mod outgoing;
+mod places;
 pub mod table;

@@ -6,6 +6,7 @@ use crate::bytes::put_1;
 use crate::bytes::put_2;
 use crate::bytes::put_16;
 use crate::bytes::put_32;
+use crate::places;
 use protocol::Board;
 use protocol::Hash;
 use protocol::Nonce;
@@ -19,9 +20,10 @@ ghost use lib.Dec.{eqb};
 ghost use lib.ListN.{length, drop};
 ghost use Rattle.protocol.specs.Table.{capacity};
 ghost use Rattle.packed.specs.Bytes.{Placed};
-ghost use Rattle.packed.specs.Table.{transactionStateNumber, transactionStateOf, transactionBytes, packTransaction, transactionOf, tableBytes, packRows, statesGood, tableOf, noTable, unpackTable, packTableIn};
+ghost use Rattle.packed.specs.Places.{transactionTakenAt, progressPartBytes};
+ghost use Rattle.packed.specs.Table.{transactionStateNumber, transactionStateOf, transactionBytes, packRequest, packProgress, packTransaction, transactionOf, tableBytes, packRows, statesGood, tableOf, noTable, unpackTable, packTableIn};
 
-pub const TRANSACTION_BYTES: usize = 84;
+pub const TRANSACTION_BYTES: usize = places::TRANSACTION_END;
 
 pub const TABLE_BYTES: usize = TransactionTable::CAPACITY * TRANSACTION_BYTES;
 
@@ -64,12 +66,12 @@ fn get_transaction(bytes: &[u8], at: usize) -> Transaction
     ensures { λ r. ⌜ r ≡ transactionOf (drop at (now (bytes .entry))) ⌝ }
 {
     let id = get_16(bytes, at);
-    let board = get_2(bytes, at + 16);
-    let kind = bytes[at + 18];
-    let taken = get_16(bytes, at + 19);
-    let sent = get_16(bytes, at + 35);
-    let hash = get_32(bytes, at + 51);
-    let state = state_of(bytes[at + 83]);
+    let board = get_2(bytes, at + places::TRANSACTION_BOARD);
+    let kind = bytes[at + places::TRANSACTION_KIND];
+    let taken = get_16(bytes, at + places::TRANSACTION_TAKEN);
+    let sent = get_16(bytes, at + places::TRANSACTION_SENT);
+    let hash = get_32(bytes, at + places::TRANSACTION_HASH);
+    let state = state_of(bytes[at + places::TRANSACTION_STATE]);
     Transaction {
         id: TransactionId { bytes: id },
         board: Board(board),
@@ -81,23 +83,39 @@ fn get_transaction(bytes: &[u8], at: usize) -> Transaction
     }
 }
 
+// Id, board and kind.
+fn put_request(bytes: &mut [u8], at: usize, t: Transaction)
+    requires { ⌜ at + transactionBytes ≤ length (now bytes) ⌝ }
+    ensures { λ _. ⌜ Placed at transactionTakenAt (packRequest t) (now (bytes .entry)) (now (bytes .exit)) ⌝ }
+{
+    let id = t.id.bytes;
+    let board = t.board;
+    put_16(bytes, at, id);
+    put_2(bytes, at + places::TRANSACTION_BOARD, board.0);
+    put_1(bytes, at + places::TRANSACTION_KIND, t.kind);
+}
+
+// Nonces, hash and state, of the transaction that starts at the offset.
+fn put_progress(bytes: &mut [u8], at: usize, t: Transaction)
+    requires { ⌜ at + transactionBytes ≤ length (now bytes) ⌝ }
+    ensures { λ _. ⌜ Placed (at + transactionTakenAt) progressPartBytes (packProgress t) (now (bytes .entry)) (now (bytes .exit)) ⌝ }
+{
+    let taken = t.taken.bytes;
+    let sent = t.sent.bytes;
+    let hash = t.hash.bytes;
+    let state = t.state;
+    put_16(bytes, at + places::TRANSACTION_TAKEN, taken);
+    put_16(bytes, at + places::TRANSACTION_SENT, sent);
+    put_32(bytes, at + places::TRANSACTION_HASH, hash);
+    put_1(bytes, at + places::TRANSACTION_STATE, state_number(state));
+}
+
 fn put_transaction(bytes: &mut [u8], at: usize, t: Transaction)
     requires { ⌜ at + transactionBytes ≤ length (now bytes) ⌝ }
     ensures { λ _. ⌜ Placed at transactionBytes (packTransaction t) (now (bytes .entry)) (now (bytes .exit)) ⌝ }
 {
-    let id = t.id.bytes;
-    let taken = t.taken.bytes;
-    let sent = t.sent.bytes;
-    let hash = t.hash.bytes;
-    let board = t.board;
-    let state = t.state;
-    put_16(bytes, at, id);
-    put_2(bytes, at + 16, board.0);
-    put_1(bytes, at + 18, t.kind);
-    put_16(bytes, at + 19, taken);
-    put_16(bytes, at + 35, sent);
-    put_32(bytes, at + 51, hash);
-    put_1(bytes, at + 83, state_number(state));
+    put_request(bytes, at, t);
+    put_progress(bytes, at, t);
 }
 
 // Whether each state byte is a state.
@@ -108,7 +126,7 @@ fn states_good(bytes: &[u8]) -> bool
     let mut i: usize = 0;
     let mut at: usize = 0;
     while i < TransactionTable::CAPACITY {
-        if bytes[at + 83] >= 7 {
+        if bytes[at + places::TRANSACTION_STATE] >= 7 {
             return false;
         }
         i += 1;

@@ -15,4 +15,10 @@ put-fault-spec =
     (λ c κs. search needs)
     (λ c κs. search needs)
     (λ c. search needs)
-    (λ c. next (c .before .before .before .before .before .before .before .before .before .before .put-1 .ensures) refl (next (c .before .before .before .before .before .before .put-8 .ensures) refl (c .before .before .put-12 .ensures))))
+    (λ c.
+    let rule = c .before .before in
+    let offset = rule .before .before .before .before in
+    let fault = offset .before .before .before .before in
+    next (fault .put-1 .ensures) refl (
+    next (offset .put-8 .ensures) refl (
+    rule .put-12 .ensures))))

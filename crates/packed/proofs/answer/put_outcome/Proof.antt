@@ -19,6 +19,9 @@ put-outcome-spec =
     (λ c κs. search needs)
     (λ c. search needs)
     (λ c.
-    next (rw (c .before .before .before .before .before .before .before .before .before .before .before .before .before .outcome-number .ensures) at (c .before .before .before .before .before .before .before .before .before .before .before .before .put-1 .ensures)) refl (
-    next (rw (c .before .before .before .before .before .before .before .before .refusal-number .ensures) at (c .before .before .before .before .before .before .before .put-12 .ensures)) refl (
-    rw (c .before .before .before .refusal-bit .ensures) at (c .before .before .put-13 .ensures)))))
+    let bit = c .before .before in
+    let refusal = bit .before .before .before .before .before in
+    let code = refusal .before .before .before .before .before in
+    next (rw (code .before .outcome-number .ensures) at (code .put-1 .ensures)) refl (
+    next (rw (refusal .before .refusal-number .ensures) at (refusal .put-12 .ensures)) refl (
+    rw (bit .before .refusal-bit .ensures) at (bit .put-13 .ensures)))))

@@ -20,9 +20,15 @@ put-enrolment-spec =
     (λ c κs. search needs)
     (λ c. search needs)
     (λ c.
-    next (c .before .before .before .before .before .before .before .before .before .before .before .before .before .before .before .before .before .before .before .before .before .before .before .put-16 .ensures) refl (
-    next (c .before .before .before .before .before .before .before .before .before .before .before .before .before .before .before .before .before .before .before .put-1 .ensures) refl (
-    next (c .before .before .before .before .before .before .before .before .before .before .before .before .before .before .before .put-162 .ensures) refl (
-    next (c .before .before .before .before .before .before .before .before .before .before .before .put-163 .ensures) refl (
-    next (c .before .before .before .before .before .before .before .put-32 .ensures) refl (
-    rw (c .before .before .before .state-number .ensures) at (c .before .before .put-12 .ensures))))))))
+    let state = c .before .before in
+    let hash = state .before .before .before .before .before in
+    let taken = hash .before .before .before .before in
+    let last = taken .before .before .before .before in
+    let kind = last .before .before .before .before in
+    let id = kind .before .before .before .before in
+    next (id .put-16 .ensures) refl (
+    next (kind .put-1 .ensures) refl (
+    next (last .put-162 .ensures) refl (
+    next (taken .put-163 .ensures) refl (
+    next (hash .put-32 .ensures) refl (
+    rw (state .before .state-number .ensures) at (state .put-12 .ensures))))))))

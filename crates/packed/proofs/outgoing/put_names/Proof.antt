@@ -22,8 +22,13 @@ put-names-spec =
     (λ c κs. search needs)
     (λ c. search needs)
     (λ c.
-    next (c .before .before .before .before .before .before .before .before .before .before .before .before .before .before .before .before .before .before .put-1 .ensures) (omega arith) (
-    next (c .before .before .before .before .before .before .before .before .before .before .before .before .before .before .put-16 .ensures) (omega arith) (
-    next (c .before .before .before .before .before .before .before .before .before .before .put-162 .ensures) (omega arith) (
-    next (c .before .before .before .before .before .before .put-flag .ensures) (omega arith) (
-    c .before .before .put-163 .ensures))))))
+    let recip = c .before .before in
+    let has-recip = recip .before .before .before .before in
+    let sender = has-recip .before .before .before .before in
+    let id = sender .before .before .before .before in
+    let kind = id .before .before .before .before in
+    next (kind .put-1 .ensures) (omega arith) (
+    next (id .put-16 .ensures) (omega arith) (
+    next (sender .put-162 .ensures) (omega arith) (
+    next (has-recip .put-flag .ensures) (omega arith) (
+    recip .put-163 .ensures))))))

@@ -10,7 +10,6 @@ put-outgoing-spec =
     tie.close
     (tie.spec
     (λ c κs. search needs)
-    (λ c. search needs)
     (λ c κs. search needs)
     (λ c. search needs)
     (λ c. next (c .before .before .before .before .before .before .put-names .ensures) refl (c .before .before .put-status .ensures)))

@@ -11,6 +11,7 @@ unfolding packStatus
 put-status-spec =
     tie.close
     (tie.spec
+    (λ c. search needs)
     (λ c κs. search needs)
     (λ c. search needs)
     (λ c κs. search needs)
@@ -21,7 +22,11 @@ put-status-spec =
     (λ c κs. search needs)
     (λ c. search needs)
     (λ c.
-    next (c .before .before .before .before .before .before .before .before .before .before .before .before .before .before .before .put-flag .ensures) (omega arith) (
-    next (c .before .before .before .before .before .before .before .before .before .before .before .put-4 .ensures) (omega arith) (
-    next (c .before .before .before .before .before .before .before .put-32 .ensures) (omega arith) (
-    rw (c .before .before .before .failure-number .ensures) at (c .before .before .put-1 .ensures))))))
+    let failure = c .before .before in
+    let hash = failure .before .before .before .before .before in
+    let status = hash .before .before .before .before in
+    let has-status = status .before .before .before .before in
+    next (has-status .put-flag .ensures) (omega arith) (
+    next (status .put-4 .ensures) (omega arith) (
+    next (hash .put-32 .ensures) (omega arith) (
+    rw (failure .before .failure-number .ensures) at (failure .put-1 .ensures))))))
