@@ -8,7 +8,7 @@ use Rattle.protocol.specs.declared.Verdict.{Verdict}
 use Rattle.protocol.specs.declared.Transaction.{Transaction}
 use Rattle.protocol.specs.declared.Verdict.the-variants.{Bad, Good}
 use Rattle.protocol.specs.Bytes.{present, isNonce, sameHash}
-use Rattle.protocol.specs.Message.{Fields, isEnrolmentKind, certConf, requestNumber, statusOr0}
+use Rattle.protocol.specs.Message.{Fields, isOpeningKind, certConf, requestNumber, statusOr0}
 use Rattle.protocol.specs.Table.{hasFreeSlot, freeTransaction}
 use Rattle.protocol.specs.States.{hasSent, hasHash, settledBy, isGranted}
 use Rattle.protocol.specs.Refusals.{Row, headRows, row}
@@ -27,7 +27,7 @@ isKnown none = false
 isKnown (some r) = true
 
 abbrev pub opens : Fields → Bool
-opens m = isEnrolmentKind (m .kind)
+opens m = isOpeningKind (m .kind)
 
 abbrev pub confirms : Fields → Bool
 confirms m = eqb (m .kind) certConf
@@ -85,7 +85,7 @@ otherStatus m = confirms m && oneEntry m && not (eqb (statusOr0 (m .status)) 0 |
 
 -- 19: "certHash not the record's 32 bytes, or no hash set"
 abbrev pub otherHash : Transaction → Fields → Bool
-otherHash r m = confirms m && oneEntry m && not (hasHash (r .state) && sameHash (m .hash) (r .hash))
+otherHash r m = confirms m && oneEntry m && not (hasHash r && sameHash (m .hash) (r .hash))
 
 -- "At Confirmed or Declined the same senderNonce, hash and status give again"
 abbrev pub repeats : Transaction → Fields → Bool

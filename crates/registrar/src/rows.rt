@@ -15,14 +15,14 @@ use protocol::Board;
 use protocol::Transaction;
 use protocol::TransactionTable;
 use protocol::Verdict;
-use protocol::kinds::is_enrolment_kind;
+use protocol::kinds::is_opening_kind;
 use protocol::kinds::request_number;
 ghost use mathlib.Core.Path.{_≡_};
 ghost use mathlib.Core.Bool.{Bool, true, false, not, cond, _&&_, _||_};
 ghost use lib.Dec.{eqb};
 ghost use Rattle.protocol.specs.Bytes.{isNonce, sameBytes};
 ghost use Rattle.grammar.specs.Span.{partOf};
-ghost use Rattle.protocol.specs.Message.{isEnrolmentKind, requestNumber, isPresent, optionalPart, fieldsOf};
+ghost use Rattle.protocol.specs.Message.{isOpeningKind, requestNumber, isPresent, optionalPart, fieldsOf};
 ghost use Rattle.protocol.specs.Table.{hasFreeSlot};
 ghost use Rattle.protocol.specs.States.{hasSent, hasHash, isGranted, settledBy};
 ghost use Rattle.protocol.specs.Refusals.{lowestRow};
@@ -42,9 +42,9 @@ pub(crate) fn is_good(verdict: Verdict) -> bool
 
 // Of a request (01's opening).
 fn of_request(kind: u8, applies: bool) -> bool
-    ensures { λ r. ⌜ r ≡ (isEnrolmentKind kind && applies) ⌝ }
+    ensures { λ r. ⌜ r ≡ (isOpeningKind kind && applies) ⌝ }
 {
-    if is_enrolment_kind(kind) {
+    if is_opening_kind(kind) {
         return applies;
     }
     false
@@ -74,9 +74,9 @@ fn of_one(kind: u8, entries: usize, applies: bool) -> bool
 
 // 8: neither a request nor a certConf.
 fn other_kind(kind: u8) -> bool
-    ensures { λ r. ⌜ r ≡ not (isEnrolmentKind kind || eqb kind 24) ⌝ }
+    ensures { λ r. ⌜ r ≡ not (isOpeningKind kind || eqb kind 24) ⌝ }
 {
-    if is_enrolment_kind(kind) {
+    if is_opening_kind(kind) {
         return false;
     }
     kind != 24
@@ -94,9 +94,9 @@ fn full(table: TransactionTable) -> bool
 
 // 11, of a request: a certConf needs no slot.
 fn opens_full(kind: u8, table: TransactionTable) -> bool
-    ensures { λ r. ⌜ r ≡ (isEnrolmentKind kind && not (hasFreeSlot (table .transactions))) ⌝ }
+    ensures { λ r. ⌜ r ≡ (isOpeningKind kind && not (hasFreeSlot (table .transactions))) ⌝ }
 {
-    if is_enrolment_kind(kind) {
+    if is_opening_kind(kind) {
         return full(table);
     }
     false
@@ -195,10 +195,9 @@ fn other_status(status: u32) -> bool
 
 // 19: not the transaction's hash, or none is set.
 fn other_hash(message: &[u8], span: Span, held: Transaction) -> bool
-    ensures { λ r. ⌜ r ≡ not (hasHash (held .state) && sameBytes (partOf (now (message .entry)) span) (held .hash .bytes)) ⌝ }
+    ensures { λ r. ⌜ r ≡ not (hasHash held && sameBytes (partOf (now (message .entry)) span) (held .hash .bytes)) ⌝ }
 {
-    let state = held.state;
-    if has_hash(state) {
+    if has_hash(held) {
         if is_hash(message, span, held.hash) {
             return false;
         }
