@@ -1,2 +1,1 @@
 pub mod CheckedLaws
-pub mod RowLaws

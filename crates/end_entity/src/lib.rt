@@ -30,7 +30,7 @@ use protocol::EnrolmentState;
 use protocol::Nonce;
 use protocol::Outcome;
 use protocol::TransactionId;
-use protocol::kinds::is_enrolment_kind;
+use protocol::kinds::is_starting_kind;
 ghost use mathlib.Core.Path.{_≡_};
 ghost use Rattle.protocol.specs.Bytes.{asNonce};
 ghost use Rattle.protocol.specs.Message.{Fields, fieldsOf, statusOr0};
@@ -42,7 +42,7 @@ ghost use Rattle.protocol.specs.EndEntity.{endEntityStart, afterRefusal, endEnt
 pub fn start(kind: u8, id: TransactionId, nonce: Nonce) -> EndEntityAnswer
     ensures { λ r. ⌜ r ≡ endEntityStart kind id nonce ⌝ }
 {
-    if is_enrolment_kind(kind) {
+    if is_starting_kind(kind) {
         return EndEntityAnswer {
             outcome: Outcome::Done,
             fault: no_fault(),

@@ -5,6 +5,7 @@ use crate::states::is_waiting;
 use grammar::Message;
 use grammar::Span;
 use incoming::rows::head_refusal;
+use incoming::rows::or_row;
 use incoming::rows::status_or_0;
 use parts::is_id;
 use parts::is_nonce;
@@ -177,33 +178,25 @@ pub(crate) fn lowest_refusal(enrolment: Enrolment, message: &[u8], m: Message, g
     let kind = body.kind;
     let entries = body.entries;
     let status = status_or_0(entry);
-    let head = head_refusal(message, m, good);
-    if head != 0 {
-        return head;
-    }
-    if other_answer(kind, enrolment.kind) {
-        return 8;
-    }
-    if other_id(message, header.transaction_id, enrolment.id) {
-        return 12;
-    }
-    if other_nonce(message, header.recip_nonce, enrolment.last) {
-        return 14;
-    }
-    if not_one_response(kind, entries) {
-        return 15;
-    }
-    if other_number(kind, entries, entry.number, enrolment.kind) {
-        return 16;
-    }
-    if bad_status(kind, entries, status) {
-        return 18;
-    }
-    if not_awaited(kind, state) {
-        return 20;
-    }
-    if no_certificate(kind, status, entry.certificate) {
-        return 21;
-    }
-    0
+    let number = head_refusal(message, m, good);
+    let number = or_row(number, 8, other_answer(kind, enrolment.kind));
+    let number = or_row(
+        number,
+        12,
+        other_id(message, header.transaction_id, enrolment.id),
+    );
+    let number = or_row(
+        number,
+        14,
+        other_nonce(message, header.recip_nonce, enrolment.last),
+    );
+    let number = or_row(number, 15, not_one_response(kind, entries));
+    let number = or_row(
+        number,
+        16,
+        other_number(kind, entries, entry.number, enrolment.kind),
+    );
+    let number = or_row(number, 18, bad_status(kind, entries, status));
+    let number = or_row(number, 20, not_awaited(kind, state));
+    or_row(number, 21, no_certificate(kind, status, entry.certificate))
 }

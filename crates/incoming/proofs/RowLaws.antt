@@ -1,37 +1,15 @@
 -- The rows of a table, tested one after the other and group by group: the number of the lowest that applies.
-use Prim.Native.Nat.{ℕ, zero, suc}
+use Prim.Native.Nat.{ℕ}
 use mathlib.Core.List.{List, [], _∷_, _++_}
 use mathlib.Core.Bool.{Bool, true, false, cond, _&&_}
 use mathlib.Core.Path.{_≡_, refl, sym, _∙_, ap}
 use native.Mathlib.Omega.{arith}
-use borrow.Author.Tests.{ltb-true}
-use lib.Dec.{ltb}
-use lib.ListN.{take, drop}
+use borrow.Author.Tests.{ltb-true, ne-eqb}
+use lib.Dec.{ltb, eqb}
+use Rattle.der.proofs.Auto.{and-left, and-right}
 use Rattle.protocol.specs.Refusals.{Row, LowestRow, pass, stop, lowestRow}
 use Rattle.protocol.proofs.Tests.{true-false}
-use Rattle.protocol.proofs.Rows.{Lowest, check-is, skip}
-use Rattle.incoming.specs.Incoming.{numberOf}
-
--- the number of the first row that applies
-pub lowest : {rs : List Row} {c : LowestRow} → Lowest rs c → numberOf c ≡ numberOf (lowestRow rs)
-lowest l = sym (ap numberOf (check-is l))
-
--- ## A place in the code, after some of the rows
-
--- after the first `n` rows of the table: the other rows decide
-abbrev pub Past : ℕ → List Row → Type 0
-Past n rs = (k : LowestRow) → Lowest (drop n rs) k → Lowest rs k
-
-skips-by : (r : Row) (rs : List Row) (c k : LowestRow) → (c ≡ pass → Lowest rs k) → (b : Bool) → r .applies ≡ b → cond b (stop (r .number)) c ≡ pass → Lowest (r ∷ rs) k
-skips-by r rs c k ih true q e = let z : _≡_ {A = ℕ} 0 1 = cc in absurd (omega arith)
-skips-by r rs c k ih false q e = skip q (ih e)
-
--- the first `n` rows, where none of them applies
-pub skips : (n : ℕ) (rs : List Row) → lowestRow (take n rs) ≡ pass → Past n rs
-unfolding lowestRow
-skips zero rs e k l = l
-skips (suc n) [] e k l = l
-skips (suc n) (r ∷ rs) e k l = skips-by r rs (lowestRow (take n rs)) k (λ q. skips n rs q k l) (r .applies) refl e
+use Rattle.incoming.specs.Incoming.{numberOf, orRow, chain}
 
 -- ## Two groups of rows, the second after the first
 
@@ -73,6 +51,35 @@ unfolding lowestRow allPositive
 passes-all [] p e = refl
 passes-all (r ∷ rs) p e = passes-at (r .number) (lowestRow rs) (ltb 0 (r .number)) (allPositive rs) refl p (λ q. passes-all rs q) (r .applies) e
 
--- where a row of the first group applies, its number is that of both groups
-pub stops-early : (rs qs : List Row) (k : ℕ) → k ≡ numberOf (lowestRow rs) → (k ≡ 0 → ⊥) → k ≡ numberOf (lowestRow (rs ++ qs))
-stops-early rs qs k e d = rw (check-append rs qs, stops-at (lowestRow rs) k e d)
+-- ## The table as the code walks it
+
+-- a number other than 0 stays
+stays : (n : ℕ) → eqb n 0 ≡ false → (rs : List Row) → chain n rs ≡ n
+unfolding chain
+stays n e [] = refl
+stays n e (r ∷ rs) = rw e (stays n e rs)
+
+chain-at : (r : Row) (rs : List Row) → ltb 0 (r .number) ≡ true → chain 0 rs ≡ numberOf (lowestRow rs) → (b : Bool) → chain (cond b (r .number) 0) rs ≡ numberOf (cond b (stop (r .number)) (lowestRow rs))
+chain-at r rs p ih true = stays (r .number) (ne-eqb (r .number) 0 (λ e. omega (arith, ltb-true 0 (r .number) p))) rs
+chain-at r rs p ih false = ih
+
+pub chain-is : (rs : List Row) → allPositive rs ≡ true → chain 0 rs ≡ numberOf (lowestRow rs)
+unfolding chain lowestRow allPositive
+chain-is [] p = refl
+chain-is (r ∷ rs) p = chain-at r rs (and-left (ltb 0 (r .number)) (allPositive rs) p) (chain-is rs (and-right (ltb 0 (r .number)) (allPositive rs) p)) (r .applies)
+
+chain-append : (n : ℕ) (rs qs : List Row) → chain n (rs ++ qs) ≡ chain (chain n rs) qs
+unfolding chain
+chain-append n [] qs = refl
+chain-append n (r ∷ rs) qs = chain-append (orRow n (r .number) (r .applies)) rs qs
+
+pub chain-both : (rs qs : List Row) → allPositive (rs ++ qs) ≡ true → chain (chain 0 rs) qs ≡ numberOf (lowestRow (rs ++ qs))
+chain-both rs qs p = sym (chain-append 0 rs qs) ∙ chain-is (rs ++ qs) p
+
+-- from the first group's number on
+pub chain-from : (rs qs : List Row) → allPositive rs ≡ true → allPositive (rs ++ qs) ≡ true → chain (numberOf (lowestRow rs)) qs ≡ numberOf (lowestRow (rs ++ qs))
+chain-from rs qs p q = ap (λ (n : ℕ). chain n qs) (sym (chain-is rs p)) ∙ chain-both rs qs q
+
+-- a row of the code is the row of the table
+pub next : (n : ℕ) {r r′ x : ℕ} {b t : Bool} → r′ ≡ orRow r n b → r ≡ x → b ≡ t → r′ ≡ orRow x n t
+next n e p q = e ∙ (λ i. orRow (p i) n (q i))

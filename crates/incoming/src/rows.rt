@@ -13,7 +13,7 @@ ghost use mathlib.Core.Bool.{not, cond, _&&_, _||_};
 ghost use lib.Dec.{eqb};
 ghost use Rattle.protocol.specs.Message.{isPresent, fieldsOf, optionalStatus, statusOr0};
 ghost use Rattle.protocol.specs.Refusals.{bitOf, readRefusal, lowestRow, headRows};
-ghost use Rattle.incoming.specs.Incoming.{numberOf, faultOf};
+ghost use Rattle.incoming.specs.Incoming.{numberOf, faultOf, orRow};
 
 // The reader's fault; zeros where there is none.
 pub fn fault_of(reading: Reading) -> ReadFault
@@ -61,27 +61,29 @@ fn unprotected(m: Message, header: Header) -> bool
     true
 }
 
+// The next row of a table: the number so far, or this one where it applies; 0 is no row's number.
+pub fn or_row(so_far: u8, number: u8, applies: bool) -> u8
+    ensures { λ r. ⌜ r ≡ orRow «so_far» number applies ⌝ }
+{
+    if so_far == 0 {
+        if applies {
+            return number;
+        }
+        return 0;
+    }
+    so_far
+}
+
 // The lowest of the rows 3 to 7 that applies; 0 where none does.
 pub fn head_refusal(message: &[u8], m: Message, good: bool) -> u8
     ensures { λ r. ⌜ r ≡ numberOf (lowestRow (headRows good (fieldsOf (now (message .entry)) m))) ⌝ }
 {
     let header = m.header;
-    if other_version(header.version) {
-        return 3;
-    }
-    if not_sixteen(message, header.transaction_id) {
-        return 4;
-    }
-    if not_sixteen(message, header.sender_nonce) {
-        return 5;
-    }
-    if unprotected(m, header) {
-        return 6;
-    }
-    if good {
-        return 0;
-    }
-    7
+    let number = or_row(0, 3, other_version(header.version));
+    let number = or_row(number, 4, not_sixteen(message, header.transaction_id));
+    let number = or_row(number, 5, not_sixteen(message, header.sender_nonce));
+    let number = or_row(number, 6, unprotected(m, header));
+    or_row(number, 7, !good)
 }
 
 // The status of the only entry, or of an error; one that is left out counts as 0.

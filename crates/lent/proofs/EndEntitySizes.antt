@@ -15,7 +15,7 @@ use Rattle.protocol.specs.declared.EnrolmentState.{EnrolmentState}
 use Rattle.protocol.specs.declared.Enrolment.{Enrolment}
 use Rattle.protocol.specs.declared.EndEntityAnswer.{EndEntityAnswer}
 use Rattle.protocol.specs.Bytes.{asNonce}
-use Rattle.protocol.specs.Message.{Fields, fieldsOf, isEnrolmentKind, pkiConf, errorKind, statusOr0}
+use Rattle.protocol.specs.Message.{Fields, fieldsOf, isStartingKind, pkiConf, errorKind, statusOr0}
 use Rattle.protocol.specs.Refusals.{LowestRow, pass, stop, lowestRow}
 use Rattle.protocol.specs.EndEntityRows.{endEntityRows}
 use Rattle.protocol.specs.States.{isWaiting, isConfirming}
@@ -34,7 +34,7 @@ pub record EndEntitySized (a : EndEntityAnswer) : Type 0 where
 pub start-sized : (k : ℕ) (i : TransactionId) (n : Nonce) → length (i .bytes) ≡ 16 → length (n .bytes) ≡ 16 → EndEntitySized (endEntityStart k i n)
 unfolding endEntityStart
 start-sized k i n p q =
-    cases EndEntitySized (isEnrolmentKind k) _ _
+    cases EndEntitySized (isStartingKind k) _ _
     (λ _.
     record {
       enrolment = record { id = p; last = q; taken = refl; hash = refl };

@@ -21,7 +21,7 @@ use Rattle.protocol.specs.Bytes.{asId, asNonce}
 use Rattle.protocol.specs.Message.{Fields, fieldsOf}
 use Rattle.protocol.specs.Refusals.{LowestRow, pass, stop, lowestRow}
 use Rattle.protocol.specs.RegistrarRows.{registrarRows}
-use Rattle.protocol.specs.States.{isAsked, isGranted, mayClose}
+use Rattle.protocol.specs.States.{isGranted, mayIssue, mayRefuse, mayLapse, mayClose}
 use Rattle.protocol.specs.Table.{lookup, slotOf, freeSlot}
 use Rattle.protocol.specs.Registrar.{hostStep, refusedQuietly, registrarIssue, registrarRefuse, registrarLapse, registrarClose, registrarChecked, registrarFields, registrarRead, registrarMessage}
 use Rattle.protocol.proofs.Tests.{cases}
@@ -57,7 +57,7 @@ module _ (t : TransactionTable) (z : TableSized t) where
     pub issue-sized : (n : Nonce) (h : Hash) → length (n .bytes) ≡ 16 → length (h .bytes) ≡ 32 → RegistrarSized (registrarIssue t i n h)
     unfolding registrarIssue
     issue-sized n h p q =
-        host (λ r. isAsked (r .state)) _ _ refl
+        host mayIssue _ _ refl
         (λ r s.
         record {
           table = replace-sized t z i _ (record { id = s .id; taken = s .taken; sent = p; hash = q });
@@ -69,7 +69,7 @@ module _ (t : TransactionTable) (z : TableSized t) where
     pub refuse-sized : (n : Nonce) → length (n .bytes) ≡ 16 → RegistrarSized (registrarRefuse t i n)
     unfolding registrarRefuse
     refuse-sized n p =
-        host (λ r. isAsked (r .state)) _ _ refl
+        host mayRefuse _ _ refl
         (λ r s.
         record {
           table = replace-sized t z i _ (record { id = s .id; taken = s .taken; sent = p; hash = s .hash });
@@ -81,12 +81,12 @@ module _ (t : TransactionTable) (z : TableSized t) where
     pub lapse-sized : RegistrarSized (registrarLapse t i)
     unfolding registrarLapse
     lapse-sized =
-        host (λ r. isGranted (r .state)) _ _ refl
+        host mayLapse _ _ refl
         (λ r s. record { table = replace-sized t z i _ (record { id = s .id; taken = s .taken; sent = s .sent; hash = s .hash }); outgoing = silent-sized; outcome = tt; slot = slot-small t z i })
 
     pub close-sized : RegistrarSized (registrarClose t i)
     unfolding registrarClose
-    close-sized = host (λ r. mayClose (r .state)) _ _ refl (λ r s. record { table = replace-sized t z i _ free-sized; outgoing = silent-sized; outcome = tt; slot = slot-small t z i })
+    close-sized = host mayClose _ _ refl (λ r s. record { table = replace-sized t z i _ free-sized; outgoing = silent-sized; outcome = tt; slot = slot-small t z i })
 
   -- ## A message
 

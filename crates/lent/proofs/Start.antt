@@ -13,7 +13,7 @@ use Rattle.protocol.specs.declared.Outgoing.{Outgoing}
 use Rattle.protocol.specs.declared.Enrolment.{Enrolment}
 use Rattle.protocol.specs.declared.Outcome.{Outcome}
 use Rattle.protocol.specs.declared.Outcome.the-variants.{Done, Refused}
-use Rattle.protocol.specs.Message.{isEnrolmentKind}
+use Rattle.protocol.specs.Message.{isStartingKind}
 use Rattle.protocol.specs.EndEntity.{endEntityStart}
 use Rattle.protocol.specs.Run.{World, startDid, unlessRefused}
 use Rattle.protocol.proofs.Tests.{cases}
@@ -80,7 +80,7 @@ module _ (l : LentWorld) (w : World) (st : Stands l w) (d : Board) (s : List ℕ
   pub start-step : (p : Bool) → After (endEntityStart k (idOf i) (nonceOf n)) (startCrossing p (endEntityStart k (idOf i) (nonceOf n)) s b)
   unfolding endEntityStart
   start-step p =
-      cases (λ (a : EndEntityAnswer). EndEntitySized a → After a (startCrossing p a s b)) (isEnrolmentKind k) _ _
+      cases (λ (a : EndEntityAnswer). EndEntitySized a → After a (startCrossing p a s b)) (isStartingKind k) _ _
       (λ _ z. crossed _ z p (done _ _ _ _ z))
       (λ _ z. crossed _ z p (λ _. refused _ _ _ _ _ _ z))
       (start-sized k (idOf i) (nonceOf n) (sixteen-in i) (sixteen-in n))

@@ -25,7 +25,7 @@ use Rattle.protocol.specs.declared.Verdict.the-variants.{Bad, Good}
 use Rattle.protocol.specs.declared.TransactionState.the-variants as at-registrar
 use Rattle.protocol.specs.Bytes.{asId}
 use Rattle.grammar.specs.Span.{partOf}
-use Rattle.protocol.specs.Message.{isPresent, optionalPart, Fields, fieldsOf, statusOr0, optionalStatus, isEnrolmentKind}
+use Rattle.protocol.specs.Message.{isPresent, optionalPart, Fields, fieldsOf, statusOr0, optionalStatus, isOpeningKind}
 use Rattle.protocol.specs.Table.{lookup}
 use Rattle.protocol.specs.States.{settledBy, isGranted}
 use Rattle.protocol.specs.Refusals.{notSixteen, LowestRow, lowestRow, pass, stop}
@@ -162,7 +162,7 @@ module _ (t : TransactionTable) (d : RegistrarInput) (bytes : List ℕ) (m : Mes
   ends-by : readingOf bytes ≡ read.Clean m → f .kind ≡ 24 → (g : Option Transaction) → lookup rs (asId (f .id)) ≡ g → (c : LowestRow) → lowestRow (registrarRows rs g (d .verdict) f) ≡ c → EndsWith ((registrarChecked c g t d f) .outcome)
   unfolding registrarChecked EndsWith
   ends-by reads k g h (stop n) e = tt
-  ends-by reads k none h pass e = true-false (sym (opens-it rs (d .verdict) f e) ∙ ap isEnrolmentKind k)
+  ends-by reads k none h pass e = true-false (sym (opens-it rs (d .verdict) f e) ∙ ap isOpeningKind k)
   ends-by reads k (some r) h pass e = some-end r _ (passed-at reads r h e (isGranted (r .state)) refl)
 
   pub ends : readingOf bytes ≡ read.Clean m → m .body .kind ≡ 24 → EndsWith (registrarMessage t d bytes .outcome)

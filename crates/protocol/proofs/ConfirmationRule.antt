@@ -18,9 +18,9 @@ use Rattle.protocol.specs.declared.Outcome.{Outcome}
 use Rattle.protocol.specs.declared.RegistrarAnswer.{RegistrarAnswer}
 use Rattle.protocol.specs.declared.Outcome.the-variants as outcome
 use Rattle.protocol.specs.Bytes.{asId, asNonce, present, isNonce, sameBytes, sameHash, sameNonce}
-use Rattle.protocol.specs.Message.{fieldsOf, Fields, isEnrolmentKind, isPresent, statusOr0, optionalStatus}
+use Rattle.protocol.specs.Message.{fieldsOf, Fields, isOpeningKind, isPresent, statusOr0, optionalStatus}
 use Rattle.protocol.specs.Table.{hasFreeSlot, lookup, slotOf, replace}
-use Rattle.protocol.specs.States.{hasSent, hasHash, isGranted, settledState, settledBy}
+use Rattle.protocol.specs.States.{hasSent, isHashed, hasHash, isGranted, settledState, settledBy}
 use Rattle.protocol.specs.Refusals.{otherVersion, noTransactionId, noSenderNonce, unprotected, pass, lowestRow, noFault}
 use Rattle.protocol.specs.RegistrarRows.{repeats, confirms, opens, oneEntry, isGood, otherKind, confirmsForAnother, names, confirmsOtherNonce, notOneEntry, hasEntries, otherRequest, hashAlgTooEarly, otherStatus, otherHash, notTaken, registrarRows}
 use Rattle.protocol.specs.Registrar.{registrarMessage, confirmed, registrarChecked, doneSending}
@@ -42,7 +42,7 @@ module _ (t : TransactionTable) (d : RegistrarInput) (bytes : List ℕ) (m : Mes
   unfolding fieldsOf
   nonce-is = ap asNonce (part-there bytes (m .header .«sender_nonce») (c .nonce .bytes) (c .senderNonce .0, c .senderNonce .1))
 
-module _ (t : TransactionTable) (d : RegistrarInput) (bytes : List ℕ) (m : Message) (r : Transaction) (c : Matches t d bytes m r) (sent-it : hasSent (r .state) ≡ true) (hash-set : hasHash (r .state) ≡ true) (takes : (isGranted (r .state) || repeats r (fieldsOf bytes m)) ≡ true) where
+module _ (t : TransactionTable) (d : RegistrarInput) (bytes : List ℕ) (m : Message) (r : Transaction) (c : Matches t d bytes m r) (sent-it : hasSent (r .state) ≡ true) (hash-set : hasHash r ≡ true) (takes : (isGranted (r .state) || repeats r (fieldsOf bytes m)) ≡ true) where
   abbrev f : Fields
   f = fieldsOf bytes m
 
@@ -54,7 +54,7 @@ module _ (t : TransactionTable) (d : RegistrarInput) (bytes : List ℕ) (m : Mes
 
   no-request : opens f ≡ false
   unfolding fieldsOf
-  no-request = ap isEnrolmentKind (c .kind)
+  no-request = ap isOpeningKind (c .kind)
 
   one-entry : oneEntry f ≡ true
   unfolding fieldsOf
@@ -120,7 +120,7 @@ module _ (t : TransactionTable) (d : RegistrarInput) (bytes : List ℕ) (m : Mes
   same-hash = ap (λ (x : List ℕ). sameBytes x (r .hash .bytes)) (c .hash) ∙ sameBytes-refl (r .hash .bytes)
 
   row-19 : otherHash r f ≡ false
-  row-19 = off-right (confirms f && oneEntry f) _ (holds-not (hasHash (r .state) && sameHash (f .hash) (r .hash)) (both (hasHash (r .state)) (sameHash (f .hash) (r .hash)) hash-set same-hash))
+  row-19 = off-right (confirms f && oneEntry f) _ (holds-not (hasHash r && sameHash (f .hash) (r .hash)) (both (hasHash r) (sameHash (f .hash) (r .hash)) hash-set same-hash))
 
   row-20 : notTaken r f ≡ false
   row-20 = off-right (confirms f) _ (holds-not (isGranted (r .state) || repeats r f) takes)
@@ -161,7 +161,7 @@ module _ (t : TransactionTable) (d : RegistrarInput) (bytes : List ℕ) (m : Mes
       subst (MovedAnswer t d r (c .match .id) (c .match .nonce) s) (sym e) (sending-becomes t (c .match .id) r x (c .match .holds) o, (refl, refl))
 
   -- what the state of a repeated confirmation says
-  leads-sent : (s : TransactionState) → LeadsTo m s → (hasSent s ≡ true) × (hasHash s ≡ true) × (isGranted s ≡ false)
+  leads-sent : (s : TransactionState) → LeadsTo m s → (hasSent s ≡ true) × (isHashed s ≡ true) × (isGranted s ≡ false)
   leads-sent s (inl g) = (rw (g .0), rw (g .0), rw (g .0))
   leads-sent s (inr g) = (rw (g .0), rw (g .0), rw (g .0))
 
@@ -182,7 +182,7 @@ module _ (t : TransactionTable) (d : RegistrarInput) (bytes : List ℕ) (m : Mes
 
   pub repeated : (c : Repeating t d bytes m r) → RepeatedAnswer t d r (c .match .id) (c .match .nonce) (registrarMessage t d bytes)
   repeated c =
-      let l : (hasSent (r .state) ≡ true) × (hasHash (r .state) ≡ true) × (isGranted (r .state) ≡ false) = leads-sent (r .state) (c .state) in
+      let l : (hasSent (r .state) ≡ true) × (isHashed (r .state) ≡ true) × (isGranted (r .state) ≡ false) = leads-sent (r .state) (c .state) in
       let a : RegistrarAnswer =
       record { outcome = outcome.Again; fault = noFault; slot = record { 0 = slotOf (t .transactions) (c .match .id) }; sends = true; outgoing = acknowledgement d (c .match .id) (c .match .nonce); table = t } in
       let e : registrarMessage t d bytes ≡ a =

@@ -12,7 +12,7 @@ use Rattle.protocol.specs.declared.Board.{Board}
 use Rattle.protocol.specs.declared.TransactionId.{TransactionId}
 use Rattle.protocol.specs.declared.Nonce.{Nonce}
 use Rattle.protocol.specs.declared.Outgoing.{Outgoing}
-use Rattle.protocol.specs.Message.{certConf, isEnrolmentKind}
+use Rattle.protocol.specs.Message.{certConf, isStartingKind}
 use Rattle.protocol.specs.Outgoing.{requestOut}
 use Rattle.protocol.specs.EndEntity.{startedEnrolment}
 use Rattle.protocol.specs.Run.{BoardEnrolment, World}
@@ -113,11 +113,11 @@ module _ (w : World) (v : Inv w) (b : Board) (k : ℕ) (i : TransactionId) (n : 
   start-comes j z (inl h) = inl (z, h, refl)
   start-comes j z (inr g) = inr (ap (λ (u : BoardEnrolment). some (u .enrolment .id)) (g .1), g .0)
 
-  pub start-step : isEnrolmentKind k ≡ true → EndEntityStep (w .past) (w .enrolments) more b (some (requestOut k i n)) (some i)
+  pub start-step : isStartingKind k ≡ true → EndEntityStep (w .past) (w .enrolments) more b (some (requestOut k i n)) (some i)
   start-step o =
       record {
         stays = λ j z h. (z, at-more-old (w .enrolments) (new ∷ []) j z h, kept-same z);
-        stands = λ p e c. true-false (sym o ∙ ap isEnrolmentKind (ap (λ (y : Outgoing). y .kind) (some-some e) ∙ c));
+        stands = λ p e c. true-false (sym o ∙ ap isStartingKind (ap (λ (y : Outgoing). y .kind) (some-some e) ∙ c));
         sent = λ j z s h t. start-sent j z s (some (requestOut k i n)) t (at-more (w .enrolments) new j z h);
         answered = λ j z h t. start-answered j z t (at-more (w .enrolments) new j z h);
         comes = λ j z h. start-comes j z (at-more (w .enrolments) new j z h);

@@ -20,7 +20,7 @@ use Rattle.protocol.specs.declared.Outgoing.{Outgoing}
 use Rattle.protocol.specs.declared.EndEntityAnswer.{EndEntityAnswer}
 use Rattle.protocol.specs.declared.Outcome.the-variants as outcome
 use Rattle.protocol.specs.declared.EnrolmentState.the-variants.{Confirming, Declining, Sure, Declined, Failed, Unsettled}
-use Rattle.protocol.specs.Message.{Fields, pkiConf, errorKind, statusOr0, fieldsOf, isEnrolmentKind}
+use Rattle.protocol.specs.Message.{Fields, pkiConf, errorKind, statusOr0, fieldsOf, isEnrolmentKind, isStartingKind}
 use Rattle.protocol.specs.Outgoing.{silent, requestOut}
 use Rattle.protocol.specs.States.{isWaiting, isConfirming, brokenState, assured}
 use Rattle.protocol.specs.Refusals.{lowestRow, Row, stop, LowestRow, pass, readRefusal, bitOf, noFault}
@@ -115,13 +115,13 @@ start-at k i n true m b e = done-refused m b e
 start-at k i n false m b e = (sym (refused-number 32 m _ b e), refl)
 
 -- a start is refused by 32, and just for another kind than the four
-pub start-promise : (k : ℕ) (i : TransactionId) (n : Nonce) → (m : ℕ) (b : FailureInfo) → endEntityStart k i n .outcome ≡ outcome.Refused m b → (m ≡ 32) × (isEnrolmentKind k ≡ false)
+pub start-promise : (k : ℕ) (i : TransactionId) (n : Nonce) → (m : ℕ) (b : FailureInfo) → endEntityStart k i n .outcome ≡ outcome.Refused m b → (m ≡ 32) × (isStartingKind k ≡ false)
 unfolding endEntityStart
-start-promise k i n m b e = start-at k i n (isEnrolmentKind k) m b e
+start-promise k i n m b e = start-at k i n (isStartingKind k) m b e
 
 pub start-never : (k : ℕ) (i : TransactionId) (n : Nonce) → endEntityStart k i n .outcome ≡ outcome.Again → ⊥
 unfolding endEntityStart
-start-never k i n = cases (λ (a : EndEntityAnswer). a .outcome ≡ outcome.Again → ⊥) (isEnrolmentKind k) _ _ (λ _. done-again) (λ _. refused-again 32 _)
+start-never k i n = cases (λ (a : EndEntityAnswer). a .outcome ≡ outcome.Again → ⊥) (isStartingKind k) _ _ (λ _. done-again) (λ _. refused-again 32 _)
 
 -- the four kinds, as a test
 pub is-request : (k : ℕ) → isEnrolmentKind k ≡ true → IsRequest k

@@ -28,7 +28,7 @@ use Rattle.protocol.specs.EndEntity.{enrolmentRefused, inState, enrolmen
 use Rattle.protocol.specs.Run.{Event, TheRegistrar, World, BoardEnrolment, sentBy, ToEndEntity}
 use Rattle.protocol.specs.Agreement.{Issued, IssuedReading, ByGood, Carries, SenderIssued}
 use Rattle.der.proofs.Auto.{or-false-left}
-use Rattle.protocol.proofs.Tests.{none-some, true-false, some-some, cases, not-false, passes, isId-eq, isNonce-eq, eqb-eq, or-right, and-false}
+use Rattle.protocol.proofs.Tests.{none-some, true-false, some-some, cases, not-false, passes, isId-eq, isNonce-eq, eqb-eq, or-right, and-false, is-response}
 use Rattle.protocol.proofs.EnrolmentStates.{standsFor, hasConfirmed, isAnswered, broken-stands, broken-confirmed, broken-answered, assured-stands, assured-confirmed, waiting-stands, decided-stands, decided-status, decided-open}
 use Rattle.protocol.proofs.Carried.{id-read, kind-read, recip-read}
 use Rattle.protocol.proofs.Invariant.{Inv, At, EndEntityStep, Sent, Answered}
@@ -136,11 +136,6 @@ module _ (w : World) (v : Inv w) (k : ℕ) (x : BoardEnrolment) (here : At (w .e
 
   -- ## A message
 
-  response-to : (a b : Bool) → isResponse (cond a 1 (cond b 8 3)) ≡ true
-  response-to true b = refl
-  response-to false true = refl
-  response-to false false = refl
-
   module _ (bytes : List ℕ) (m : Message) (d : EndEntityInput) (e : lowestRow (endEntityRows (x .enrolment) (d .good) (fieldsOf bytes m)) ≡ pass) where
     abbrev f : Fields
     f = fieldsOf bytes m
@@ -182,7 +177,7 @@ module _ (w : World) (v : Inv w) (k : ℕ) (x : BoardEnrolment) (here : At (w .e
     waits p q =
         let h8 : (acknowledges f || reports f || eqb (f .kind) (responseTo (x .enrolment .kind))) ≡ true = not-false _ (passes 8 rows e) in
         let c : f .kind ≡ responseTo (x .enrolment .kind) = eqb-eq (f .kind) (responseTo (x .enrolment .kind)) (or-right (acknowledges f || reports f) (eqb (f .kind) (responseTo (x .enrolment .kind))) h8 (rw (p, q))) in
-        let r : responds f ≡ true = ap isResponse c ∙ response-to (eqb (x .enrolment .kind) 0) (eqb (x .enrolment .kind) 7) in
+        let r : responds f ≡ true = ap isResponse c ∙ is-response (x .enrolment .kind) in
         let A : Bool = responds f && not (isWaiting (x .enrolment .state)) in
         let B : Bool = acknowledges f && not (isConfirming (x .enrolment .state)) in
         let C : Bool = reports f && not (isWaiting (x .enrolment .state) || isConfirming (x .enrolment .state)) in

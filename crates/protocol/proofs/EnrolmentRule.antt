@@ -19,7 +19,7 @@ use Rattle.protocol.specs.Refusals.{otherVersion, noTransactionId, noSen
 use Rattle.protocol.specs.EndEntityRows.{otherId, otherNonce, otherAnswer, notOneResponse, otherNumber, badStatus, notAwaited, noCertificate, endEntityRows, responds, reports, oneResponse, acknowledges, hasStatus}
 use Rattle.protocol.specs.EndEntity.{endEntityMessage, endEntityChecked, confirming, responseTaken}
 use Rattle.protocol.specs.EnrolmentRules.{Heard, StatusIs, Acknowledges, becomes, Reports, Responds, EnrolmentRule}
-use Rattle.protocol.proofs.Tests.{holds-not, either, both, sameBytes-refl, true-false, off-left, off-right, same-number, or-true, other-than}
+use Rattle.protocol.proofs.Tests.{holds-not, either, both, sameBytes-refl, true-false, off-left, off-right, same-number, or-true, other-than, response-kinds}
 use Rattle.protocol.proofs.Carried.{part-there}
 use Rattle.protocol.proofs.Rows.{check-is, skip, through}
 use Rattle.protocol.proofs.ConfirmationMoves.{present-test, part-present}
@@ -147,21 +147,11 @@ module _ (x : Enrolment) (d : EndEntityInput) (bytes : List ℕ) (m : Message) (
     unfolding fieldsOf
     kind-is = k .kind
 
-    other-pkiconf : (a b : Bool) → eqb (cond a 1 (cond b 8 3)) 19 ≡ false
-    other-pkiconf true b = refl
-    other-pkiconf false true = refl
-    other-pkiconf false false = refl
-
-    other-error : (a b : Bool) → eqb (cond a 1 (cond b 8 3)) 23 ≡ false
-    other-error true b = refl
-    other-error false true = refl
-    other-error false false = refl
-
     not-pkiconf : acknowledges f ≡ false
-    not-pkiconf = ap (λ (n : ℕ). eqb n 19) kind-is ∙ other-pkiconf (eqb (x .kind) 0) (eqb (x .kind) 7)
+    not-pkiconf = ap (λ (n : ℕ). eqb n 19) kind-is ∙ response-kinds (λ (n : ℕ). eqb n 19 ≡ false) refl refl refl (x .kind)
 
     not-error : reports f ≡ false
-    not-error = ap (λ (n : ℕ). eqb n 23) kind-is ∙ other-error (eqb (x .kind) 0) (eqb (x .kind) 7)
+    not-error = ap (λ (n : ℕ). eqb n 23) kind-is ∙ response-kinds (λ (n : ℕ). eqb n 23 ≡ false) refl refl refl (x .kind)
 
     known-it : (n : ℕ) → (n ≡ 0) ⊎ (n ≡ 1) ⊎ (n ≡ 2) → (eqb n 0 || eqb n 1 || eqb n 2) ≡ true
     known-it n (inl e) = rw e

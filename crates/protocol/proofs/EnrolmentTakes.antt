@@ -24,7 +24,7 @@ use Rattle.protocol.specs.EndEntity.{endEntityMessage, endEntityChecked,
 use Rattle.protocol.specs.Confirmation.{Sixteen}
 use Rattle.protocol.specs.EnrolmentRules.{Heard, Acknowledges, StatusIs, Reports, Responds}
 use Rattle.der.proofs.Auto.{and-left, and-right, or-false-right, or-false-left, or-cases}
-use Rattle.protocol.proofs.Tests.{true-false, not-false, passes, isId-eq, isNonce-eq, one-of, eqb-eq, and-false, or-right, both, other-than}
+use Rattle.protocol.proofs.Tests.{true-false, not-false, passes, isId-eq, isNonce-eq, one-of, eqb-eq, and-false, or-right, both, other-than, is-response}
 use Rattle.protocol.proofs.RegistrarPromises.{done-refused}
 use Rattle.protocol.proofs.ConfirmationMoves.{sixteen, part-of, present-part}
 
@@ -49,14 +49,6 @@ is-confirming Unsettled e = true-false (sym e)
 awaited : (t : EnrolmentState) → (isWaiting t ≡ true) ⊎ (isConfirming t ≡ true) → (t ≡ Asked) ⊎ (t ≡ Confirming) ⊎ (t ≡ Declining)
 awaited t (inl e) = inl (is-waiting t e)
 awaited t (inr e) = inr (is-confirming t e)
-
-response-is : (a b : Bool) → isResponse (cond a 1 (cond b 8 3)) ≡ true
-response-is true b = refl
-response-is false true = refl
-response-is false false = refl
-
-pub is-response : (k : ℕ) → isResponse (responseTo k) ≡ true
-is-response k = response-is (eqb k 0) (eqb k 7)
 
 module _ (x : Enrolment) (d : EndEntityInput) (bytes : List ℕ) (m : Message) where
   abbrev f : Fields

@@ -99,8 +99,8 @@ module _ (rs : List Transaction) (r : Transaction) (v : Verdict) (m : Fields) (e
   unfolding registrarRows
   hash-it =
       hash-eq (m .hash) (r .hash)
-      (and-right (hasHash (r .state)) (sameHash (m .hash) (r .hash))
-      (not-false _ (and-false (confirms m && oneEntry m) (not (hasHash (r .state) && sameHash (m .hash) (r .hash))) (passes 19 (registrarRows rs (some r) v m) e) conf-one)))
+      (and-right (hasHash r) (sameHash (m .hash) (r .hash))
+      (not-false _ (and-false (confirms m && oneEntry m) (not (hasHash r && sameHash (m .hash) (r .hash))) (passes 19 (registrarRows rs (some r) v m) e) conf-one)))
 
   taken-it : (isGranted (r .state) || repeats r m) ≡ true
   unfolding registrarRows

@@ -25,7 +25,7 @@ use Rattle.protocol.specs.declared.TransactionState.the-variants as at-r
 use Rattle.protocol.specs.Bytes.{asId, asNonce}
 use Rattle.protocol.specs.Message.{Fields, statusOr0, fieldsOf}
 use Rattle.protocol.specs.Table.{isFree, freeTransaction, lookup}
-use Rattle.protocol.specs.States.{isAsked, hasHash, isGranted, mayClose, settledState}
+use Rattle.protocol.specs.States.{isAsked, isHashed, hasHash, isGranted, mayIssue, mayRefuse, mayLapse, mayClose, settledState}
 use Rattle.protocol.specs.Refusals.{lowestRow, Row, stop, LowestRow, pass, readRefusal, noFault}
 use Rattle.protocol.specs.RegistrarRows.{registrarRows}
 use Rattle.protocol.specs.Registrar.{hostStep, refusedQuietly, registrarIssue, responded, registrarRefuse, registrarLapse, settled, registrarClose, openedTransaction, registrarChecked, registrarRead, registrarFields, registrarMessage}
@@ -98,12 +98,12 @@ module _ (ns : List ℕ) (t : TransactionTable) where
 -- ## The host's steps
 
 -- a state in which nothing is unset
-full : (x : Transaction) → isFree (x .state) ≡ false → isAsked (x .state) ≡ false → hasHash (x .state) ≡ true → UnsetZero x
+full : (x : Transaction) → isFree (x .state) ≡ false → isAsked (x .state) ≡ false → hasHash x ≡ true → UnsetZero x
 full x f a h =
     record {
       free = λ e. true-false (sym (ap isFree e) ∙ f);
       asked = λ e. true-false (sym (ap isAsked e) ∙ a);
-      refused = λ e. true-false (sym h ∙ ap hasHash e);
+      refused = λ e. true-false (sym h ∙ ap isHashed e);
     }
 
 pub free-unset : UnsetZero freeTransaction
@@ -126,7 +126,7 @@ module _ (t : TransactionTable) (i : TransactionId) where
   pub issue-promise : (n : Nonce) (h : Hash) → Promise (registrarIssue t i n h)
   unfolding registrarIssue
   issue-promise n h =
-      host (λ r. isAsked (r .state)) _ (lookup rs i) (λ r e q. doing hostNumbers t _ _ _ _ (replacing t i r (responded r at-registrar.Granted n h) e (λ _. own-id r e) (λ _. full _ refl refl refl)))
+      host mayIssue _ (lookup rs i) (λ r e q. doing hostNumbers t _ _ _ _ (replacing t i r (responded r at-registrar.Granted n h) e (λ _. own-id r e) (λ _. full _ refl refl refl)))
 
   -- at Asked no hash is set, so none is set at Refused
   refused-unset : (r : Transaction) (n : Nonce) → isAsked (r .state) ≡ true → UnsetZero r → UnsetZero (responded r at-registrar.Refused n (r .hash))
@@ -135,16 +135,16 @@ module _ (t : TransactionTable) (i : TransactionId) where
   pub refuse-promise : (n : Nonce) → Promise (registrarRefuse t i n)
   unfolding registrarRefuse
   refuse-promise n =
-      host (λ r. isAsked (r .state)) _ (lookup rs i) (λ r e q. doing hostNumbers t _ _ _ _ (replacing t i r (responded r at-registrar.Refused n (r .hash)) e (λ _. own-id r e) (refused-unset r n q)))
+      host mayRefuse _ (lookup rs i) (λ r e q. doing hostNumbers t _ _ _ _ (replacing t i r (responded r at-registrar.Refused n (r .hash)) e (λ _. own-id r e) (refused-unset r n q)))
 
   pub lapse-promise : Promise (registrarLapse t i)
   unfolding registrarLapse
   lapse-promise =
-      host (λ r. isGranted (r .state)) _ (lookup rs i) (λ r e q. doing hostNumbers t _ _ _ _ (replacing t i r (settled r at-registrar.Lapsed (r .taken)) e (λ _. own-id r e) (λ _. full _ refl refl refl)))
+      host mayLapse _ (lookup rs i) (λ r e q. doing hostNumbers t _ _ _ _ (replacing t i r (settled r at-registrar.Lapsed (r .taken)) e (λ _. own-id r e) (λ _. full _ refl refl refl)))
 
   pub close-promise : Promise (registrarClose t i)
   unfolding registrarClose
-  close-promise = host (λ r. mayClose (r .state)) _ (lookup rs i) (λ r e q. doing hostNumbers t _ _ _ _ (replacing t i r freeTransaction e (λ f. true-false f) (λ _. free-unset)))
+  close-promise = host mayClose _ (lookup rs i) (λ r e q. doing hostNumbers t _ _ _ _ (replacing t i r freeTransaction e (λ f. true-false f) (λ _. free-unset)))
 
 -- ## A message
 

@@ -6,7 +6,7 @@ use mathlib.Core.Logic.{_⊎_, inl, inr}
 use Rattle.protocol.specs.declared.TransactionState.{TransactionState}
 use Rattle.protocol.specs.declared.TransactionState.the-variants as at-registrar
 use Rattle.protocol.specs.Table.{isFree}
-use Rattle.protocol.specs.States.{settledBy, hasSent, isAsked, isGranted, settledState, mayClose}
+use Rattle.protocol.specs.States.{settledBy, hasSent, isAsked, isGranted, settledState, isEnded}
 use Rattle.protocol.proofs.Tests.{true-false, eqb-eq}
 
 pub in-use : (t : TransactionState) → (t ≡ at-registrar.Free → ⊥) → isFree t ≡ false
@@ -147,13 +147,13 @@ not-granted at-registrar.Lapsed d = refl
 abbrev pub MayClose : TransactionState → Type 0
 MayClose s = (s ≡ at-registrar.Confirmed) ⊎ (s ≡ at-registrar.Declined) ⊎ (s ≡ at-registrar.Refused) ⊎ (s ≡ at-registrar.Lapsed)
 
-pub may-close : (t : TransactionState) → MayClose t → mayClose t ≡ true
+pub may-close : (t : TransactionState) → MayClose t → isEnded t ≡ true
 may-close t (inl e) = rw e
 may-close t (inr (inl e)) = rw e
 may-close t (inr (inr (inl e))) = rw e
 may-close t (inr (inr (inr e))) = rw e
 
-pub not-close : (t : TransactionState) → (MayClose t → ⊥) → mayClose t ≡ false
+pub not-close : (t : TransactionState) → (MayClose t → ⊥) → isEnded t ≡ false
 not-close at-registrar.Free d = refl
 not-close at-registrar.Asked d = refl
 not-close at-registrar.Granted d = refl

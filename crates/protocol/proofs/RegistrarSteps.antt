@@ -18,20 +18,18 @@ use Rattle.protocol.specs.declared.TransactionState.the-variants.{Grante
 use Rattle.protocol.specs.Message.{pkiConf, responseTo}
 use Rattle.protocol.specs.Outgoing.{responseOut}
 use Rattle.protocol.specs.Table.{lookup, replace, isFree, freeTransaction}
-use Rattle.protocol.specs.States.{settledBy, hasSent, isAsked, isGranted, mayClose}
+use Rattle.protocol.specs.States.{settledBy, hasSent, isAsked, mayIssue, mayRefuse, mayLapse, mayClose}
 use Rattle.protocol.specs.Registrar.{settled, refusedQuietly, hostStep, respond, responded, registrarIssue, registrarRefuse, registrarLapse, replaced, registrarClose}
 use Rattle.protocol.specs.EndEntityRows.{acknowledges}
 use Rattle.protocol.specs.Run.{World, sentBy, unlessRefused}
-use Rattle.protocol.proofs.Tests.{some-some, cases, true-false, none-some}
+use Rattle.protocol.proofs.Tests.{some-some, cases, true-false, none-some, response-kinds}
 use Rattle.protocol.proofs.RegistrarStates.{asked-unsettled, granted-unsettled, granted-sent}
 use Rattle.protocol.proofs.Lookup.{isFor-id, found, replace-same, isFor-make, replace-other, isFor-other, unique-replace, replace-gone}
 use Rattle.protocol.proofs.Invariant.{Inv, Acknowledged, Settled, SentNonce, SettledBy, RegistrarStep}
 use Rattle.protocol.proofs.RegistrarForms.{registrar-one, Quiet, registrar-idle, quiet-none, registrar-gone}
 
-response-kind : (a b : Bool) → cond a 1 (cond b 8 3) ≡ pkiConf → ⊥
-response-kind true b e = omega arith
-response-kind false true e = omega arith
-response-kind false false e = omega arith
+response-kind : (k : ℕ) → responseTo k ≡ pkiConf → ⊥
+response-kind = response-kinds (λ (n : ℕ). n ≡ pkiConf → ⊥) (λ e. omega arith) (λ e. omega arith) (λ e. omega arith)
 
 module _ (w : World) (v : Inv w) where
   abbrev pub recs : List Transaction
@@ -96,7 +94,7 @@ module _ (w : World) (v : Inv w) where
       live
       (own i r e)
       (λ s. asked-unsettled (r .state) s a)
-      (λ p q k. absurd (response-quiet (responseTo (r .kind)) i n (r .taken) status (response-kind (eqb (r .kind) 0) (eqb (r .kind) 7)) p q k))
+      (λ p q k. absurd (response-quiet (responseTo (r .kind)) i n (r .taken) status (response-kind (r .kind)) p q k))
       (λ _. inl (responseOut (responseTo (r .kind)) i n (r .taken) status, refl, refl))
       (λ s q. absurd (unsettled s q))
 
@@ -105,7 +103,7 @@ module _ (w : World) (v : Inv w) where
   issue-step i n h =
       host
       open-still
-      (λ r. isAsked (r .state))
+      mayIssue
       (λ r. respond (w .table) i r Granted 0 n h)
       (lookup recs i)
       idle
@@ -116,7 +114,7 @@ module _ (w : World) (v : Inv w) where
   refuse-step i n =
       host
       open-still
-      (λ r. isAsked (r .state))
+      mayRefuse
       (λ r. respond (w .table) i r Refused 2 n (r .hash))
       (lookup recs i)
       idle
@@ -127,7 +125,7 @@ module _ (w : World) (v : Inv w) where
   lapse-step i =
       host
       open-still
-      (λ r. isGranted (r .state))
+      mayLapse
       (λ r. replaced (w .table) i (settled r Lapsed (r .taken)))
       (lookup recs i)
       idle
@@ -150,7 +148,7 @@ module _ (w : World) (v : Inv w) where
   close-step i =
       host
       (λ a. unlessRefused (a .outcome) i)
-      (λ r. mayClose (r .state))
+      mayClose
       (λ r. replaced (w .table) i freeTransaction)
       (lookup recs i)
       idle

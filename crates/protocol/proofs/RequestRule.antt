@@ -23,7 +23,7 @@ use Rattle.protocol.specs.declared.TransactionState.the-variants as at-r
 use Rattle.protocol.specs.declared.Outcome.the-variants as outcome
 use Rattle.protocol.specs.Bytes.{present, asId, asNonce, noNonce, noHash}
 use Rattle.grammar.specs.Span.{partOf}
-use Rattle.protocol.specs.Message.{optionalPart, Fields, fieldsOf, isPresent, isEnrolmentKind}
+use Rattle.protocol.specs.Message.{optionalPart, Fields, fieldsOf, isPresent, isOpeningKind}
 use Rattle.protocol.specs.Table.{put, lookup, hasFreeSlot, freeSlot}
 use Rattle.protocol.specs.Refusals.{lowestRow, Row, pass, LowestRow, stop, otherVersion, noTransactionId, noSenderNonce, unprotected}
 use Rattle.protocol.specs.RegistrarRows.{isGood, registrarRows, oneEntry, hasEntries, opens, confirms, opensWithNonce}
@@ -86,7 +86,7 @@ module _ (t : TransactionTable) (d : RegistrarInput) (bytes : List ℕ) (m : Mes
         let p : (isPresent (m .protection) && isPresent (m .header .«protection_alg»)) ≡ true = not-false _ (passes 6 rows e) in
         let i : Sixteen bytes (m .header .«transaction_id») (partOf bytes (m .header .«transaction_id»)) = sixteen bytes (m .header .«transaction_id») (passes 4 rows e) in
         let n : Sixteen bytes (m .header .«sender_nonce») (partOf bytes (m .header .«sender_nonce»)) = sixteen bytes (m .header .«sender_nonce») (passes 5 rows e) in
-        let o : isEnrolmentKind (m .body .kind) ≡ true = request-kind (m .body .kind) kind in
+        let o : isOpeningKind (m .body .kind) ≡ true = request-kind (m .body .kind) kind in
         let g : (q : ℕ) × (x : Transaction) × (getElem? rs q ≡ some x) × (x .state ≡ at-registrar.Free) = room-free rs (room rs (d .verdict) f e) in
         let one : (m .body .kind ≡ 4 → ⊥) → oneEntry f ≡ true = λ z. not-false (oneEntry f) (and-false (hasEntries f) (not (oneEntry f)) (passes 15 rows e) (counted (m .body .kind) kind z)) in
         record {
@@ -100,7 +100,7 @@ module _ (t : TransactionTable) (d : RegistrarInput) (bytes : List ℕ) (m : Mes
           algorithm = present-part (m .header .«protection_alg») (and-right (isPresent (m .protection)) (isPresent (m .header .«protection_alg»)) p);
           good = good-names (d .verdict) (not-false _ (passes-7 rs none (d .verdict) f e)) .1;
           kind = kind;
-          noRecipNonce = absent-test bytes (m .header .«recip_nonce») (and-false (isEnrolmentKind (m .body .kind)) (present (f .recipNonce)) (passes 9 rows e) o);
+          noRecipNonce = absent-test bytes (m .header .«recip_nonce») (and-false (isOpeningKind (m .body .kind)) (present (f .recipNonce)) (passes 9 rows e) o);
           unknown = ap (λ (x : Option (List ℕ)). lookup rs (asId x)) (sym (part-there bytes (m .header .«transaction_id») _ (i .0, refl))) ∙ h;
           slot = g .0;
           held = g .1;

@@ -27,7 +27,7 @@ use Rattle.protocol.specs.Bytes.{asId, asNonce}
 use Rattle.protocol.specs.Message.{Fields, fieldsOf}
 use Rattle.protocol.specs.Outgoing.{errorOut, silent}
 use Rattle.protocol.specs.Table.{lookup}
-use Rattle.protocol.specs.States.{isAsked, isGranted, mayClose, hasSent}
+use Rattle.protocol.specs.States.{isGranted, mayIssue, mayRefuse, mayLapse, mayClose, hasSent}
 use Rattle.protocol.specs.Refusals.{bitOf, lowestRow, LowestRow, stop, pass, readRefusal, noFault}
 use Rattle.protocol.specs.RegistrarRows.{registrarRows, confirms, oneEntry}
 use Rattle.protocol.specs.Registrar.{hostStep, registrarIssue, registrarRefuse, registrarLapse, registrarClose, registrarChecked, registrarMessage, registrarFields, registrarRead}
@@ -42,22 +42,22 @@ use Rattle.protocol.proofs.Slots.{sending-becomes, quietly-becomes}
 
 -- ## Host steps
 
-module _ (t : TransactionTable) (i : TransactionId) (Allowed : TransactionState → Type 0) (ok : TransactionState → Bool) (yes-it : (s : TransactionState) → Allowed s → ok s ≡ true) (no-it : (s : TransactionState) → (Allowed s → ⊥) → ok s ≡ false) (next : Transaction → RegistrarAnswer) where
-  unknown-at : (f : Option Transaction) → f ≡ none → hostStep f t (λ r. ok (r .state)) next ≡ hostRefusal 30 t
+module _ (t : TransactionTable) (i : TransactionId) (Allowed : TransactionState → Type 0) (ok : Transaction → Bool) (yes-it : (r : Transaction) → Allowed (r .state) → ok r ≡ true) (no-it : (r : Transaction) → (Allowed (r .state) → ⊥) → ok r ≡ false) (next : Transaction → RegistrarAnswer) where
+  unknown-at : (f : Option Transaction) → f ≡ none → hostStep f t ok next ≡ hostRefusal 30 t
   unfolding bitOf
   unknown-at none e = refl
   unknown-at (some r) e = none-some (sym e)
 
-  done-at : (f : Option Transaction) (r : Transaction) → f ≡ some r → Allowed (r .state) → hostStep f t (λ r. ok (r .state)) next ≡ next r
+  done-at : (f : Option Transaction) (r : Transaction) → f ≡ some r → Allowed (r .state) → hostStep f t ok next ≡ next r
   done-at none r e a = none-some e
-  done-at (some s) r e a = rw (some-some e, yes-it (r .state) a)
+  done-at (some s) r e a = rw (some-some e, yes-it r a)
 
-  else-at : (f : Option Transaction) (r : Transaction) → f ≡ some r → (Allowed (r .state) → ⊥) → hostStep f t (λ r. ok (r .state)) next ≡ hostRefusal 31 t
+  else-at : (f : Option Transaction) (r : Transaction) → f ≡ some r → (Allowed (r .state) → ⊥) → hostStep f t ok next ≡ hostRefusal 31 t
   unfolding bitOf
   else-at none r e a = none-some e
-  else-at (some s) r e a = rw (some-some e, no-it (r .state) a)
+  else-at (some s) r e a = rw (some-some e, no-it r a)
 
-  host-rule : (Next : Transaction → RegistrarAnswer → Type 0) → ((r : Transaction) → lookup (t .transactions) i ≡ some r → Next r (next r)) → HostRule t i Allowed Next (hostStep (lookup (t .transactions) i) t (λ r. ok (r .state)) next)
+  host-rule : (Next : Transaction → RegistrarAnswer → Type 0) → ((r : Transaction) → lookup (t .transactions) i ≡ some r → Next r (next r)) → HostRule t i Allowed Next (hostStep (lookup (t .transactions) i) t ok next)
   host-rule Next n =
       record {
         unknown = unknown-at (lookup (t .transactions) i);
@@ -69,10 +69,10 @@ pub host-rules : (t : TransactionTable) (i : TransactionId) → HostRules t i
 unfolding registrarIssue registrarRefuse registrarLapse registrarClose
 host-rules t i =
     record {
-      issue = λ n h. host-rule t i (λ s. s ≡ at-registrar.Asked) isAsked (λ s e. rw e) not-asked _ _ (λ r e. (sending-becomes t i r _ e _, (refl, refl)));
-      refuse = λ n. host-rule t i (λ s. s ≡ at-registrar.Asked) isAsked (λ s e. rw e) not-asked _ _ (λ r e. (sending-becomes t i r _ e _, (refl, refl)));
-      lapse = host-rule t i (λ s. s ≡ at-registrar.Granted) isGranted (λ s e. rw e) not-granted _ _ (λ r e. (quietly-becomes t i r _ e, (refl, refl)));
-      close = host-rule t i MayClose mayClose may-close not-close _ _ (λ r e. (quietly-becomes t i r _ e, (refl, refl)));
+      issue = λ n h. host-rule t i (λ s. s ≡ at-registrar.Asked) mayIssue (λ r e. rw e) (λ r. not-asked (r .state)) _ _ (λ r e. (sending-becomes t i r _ e _, (refl, refl)));
+      refuse = λ n. host-rule t i (λ s. s ≡ at-registrar.Asked) mayRefuse (λ r e. rw e) (λ r. not-asked (r .state)) _ _ (λ r e. (sending-becomes t i r _ e _, (refl, refl)));
+      lapse = host-rule t i (λ s. s ≡ at-registrar.Granted) mayLapse (λ r e. rw e) (λ r. not-granted (r .state)) _ _ (λ r e. (quietly-becomes t i r _ e, (refl, refl)));
+      close = host-rule t i MayClose mayClose (λ r. may-close (r .state)) (λ r. not-close (r .state)) _ _ (λ r e. (quietly-becomes t i r _ e, (refl, refl)));
     }
 
 -- ## What a refused message sends

@@ -13,7 +13,7 @@ use Rattle.protocol.specs.declared.TransactionId.{TransactionId}
 use Rattle.protocol.specs.declared.Nonce.{Nonce}
 use Rattle.protocol.specs.declared.Hash.{Hash}
 use Rattle.protocol.specs.Bytes.{sameBytes, sameId, sameNonce, sameHash, isId, isNonce}
-use Rattle.protocol.specs.Message.{isEnrolmentKind}
+use Rattle.protocol.specs.Message.{isEnrolmentKind, isResponse, responseTo}
 use Rattle.protocol.specs.Refusals.{Row, pass, lowestRow, stop}
 use Rattle.protocol.specs.Request.{IsRequest}
 
@@ -163,3 +163,17 @@ request-kind k (inl e) = rw e
 request-kind k (inr (inl e)) = rw e
 request-kind k (inr (inr (inl e))) = rw e
 request-kind k (inr (inr (inr e))) = rw e
+
+-- what holds of ip, cp and kup holds of each response
+pub response-kinds : (P : ℕ → Type 0) → P 1 → P 3 → P 8 → (k : ℕ) → P (responseTo k)
+response-kinds P ip cp kup k = by (eqb k 0) (eqb k 2) (eqb k 4) (eqb k 7)
+  where
+    by : (a b c d : Bool) → P (cond a 1 (cond b 3 (cond c 3 (cond d 8 3))))
+    by true b c d = ip
+    by false true c d = cp
+    by false false true d = cp
+    by false false false true = kup
+    by false false false false = cp
+
+pub is-response : (k : ℕ) → isResponse (responseTo k) ≡ true
+is-response = response-kinds (λ (n : ℕ). isResponse n ≡ true) refl refl refl

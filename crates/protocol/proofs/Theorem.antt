@@ -15,7 +15,7 @@ use Rattle.protocol.specs.declared.Outcome.the-variants.{Done}
 use Rattle.protocol.proofs.RegistrarMessage as at-registrar
 use Rattle.protocol.proofs.EndEntityForms as forms
 use Rattle.protocol.proofs.EndEntitySteps as at-board
-use Rattle.protocol.specs.Message.{isEnrolmentKind}
+use Rattle.protocol.specs.Message.{isStartingKind}
 use Rattle.protocol.specs.Refusals.{noFault}
 use Rattle.protocol.specs.Outgoing.{requestOut}
 use Rattle.protocol.specs.Registrar.{registrarMessage, registrarIssue, registrarRefuse, registrarLapse, registrarClose}
@@ -80,7 +80,7 @@ fair-after (c ∷ cs) w f = fair-step w c (fair-after cs (step w c) f)
 abbrev did : World → Board → ℕ → TransactionId → Nonce → EndEntityAnswer → World
 did w b k i n a = startDid w (Start b k i n) b a (unlessRefused (a .outcome) i)
 
-start-at : (w : World) (b : Board) (k : ℕ) (i : TransactionId) (n : Nonce) → Inv w → (t : Bool) → isEnrolmentKind k ≡ t
+start-at : (w : World) (b : Board) (k : ℕ) (i : TransactionId) (n : Nonce) → Inv w → (t : Bool) → isStartingKind k ≡ t
     → (let a : EndEntityAnswer = cond t (record { outcome = Done; fault = noFault; sends = true; outgoing = requestOut k i n; enrolment = startedEnrolment k i n }) (enrolmentRefused 32 noEnrolment) in Fair ((did w b k i n a) .past) → Inv (did w b k i n a))
 start-at w b k i n v true o f = board-preserves w (Start b k i n) b (some (requestOut k i n)) (some i) (forms.more w v b k i n) v (f .0 .id) (forms.start-step w v b k i n o)
 start-at w b k i n v false o f = board-preserves w (Start b k i n) b none none (w .enrolments) v (f .0 .id) (forms.board-none w v b)
@@ -107,7 +107,7 @@ registrar-at w v c cl a s = registrar-preserves w c (sentBy (a .sends) (a .outgo
 
 step-preserves : (w : World) (c : Call) → Inv w → Fair ((step w c) .past) → Inv (step w c)
 unfolding step endEntityStart
-step-preserves w (Start b k i n) v f = start-at w b k i n v (isEnrolmentKind k) refl f
+step-preserves w (Start b k i n) v f = start-at w b k i n v (isStartingKind k) refl f
 step-preserves w (ToRegistrar bytes d) v f = registrar-at w v (ToRegistrar bytes d) (open-still w v) (registrarMessage (w .table) d bytes) (at-registrar.message-step w v bytes d (f .0 .verdict))
 step-preserves w (ToEndEntity k bytes d) v f =
     enrolment-at w v (ToEndEntity k bytes d) k (λ x. endEntityMessage x d bytes) (getElem? (w .enrolments) k) refl f (λ q y e. at-board.message-step w v k y e bytes d q)

@@ -17,7 +17,7 @@ use Rattle.protocol.specs.declared.EndEntityAnswer.{EndEntityAnswer}
 use Rattle.protocol.specs.declared.EnrolmentState.the-variants.{Asked, Failed}
 use Rattle.protocol.specs.declared.Outcome.the-variants as outcome
 use Rattle.protocol.specs.Bytes.{noNonce, noHash, noId, asNonce}
-use Rattle.protocol.specs.Message.{isEnrolmentKind, Fields, statusOr0, pkiConf, errorKind, fieldsOf}
+use Rattle.protocol.specs.Message.{isStartingKind, Fields, statusOr0, pkiConf, errorKind, fieldsOf}
 use Rattle.protocol.specs.Outgoing.{silent, requestOut, certConfOut}
 use Rattle.protocol.specs.States.{decided, decision, assured, brokenState, isWaiting, isConfirming}
 use Rattle.protocol.specs.Refusals.{bitOf, LowestRow, stop, pass, readRefusal, lowestRow, noFault}
@@ -53,7 +53,7 @@ noEnrolment = record { id = noId; kind = 0; last = noNonce; taken = noNonce; has
 -- 32: "board start, kind not 0, 2, 4 or 7"
 unfoldable pub endEntityStart : ℕ → TransactionId → Nonce → EndEntityAnswer
 endEntityStart k i n =
-    cond (isEnrolmentKind k)
+    cond (isStartingKind k)
     (record { outcome = outcome.Done; fault = noFault; sends = true; outgoing = requestOut k i n; enrolment = startedEnrolment k i n })
     (enrolmentRefused 32 noEnrolment)
 

@@ -59,10 +59,10 @@ notAwaited x m =
 abbrev pub noCertificate : Fields → Bool
 noCertificate m = responds m && not (hasStatus 2 m) && not (m .certificate)
 
-unfoldable pub endEntityRows : Enrolment → Bool → Fields → List Row
-endEntityRows x good m =
-    headRows good m
-    ++ (row 8 (otherAnswer x m)
+-- 8 to 21
+abbrev pub answerRows : Enrolment → Fields → List Row
+answerRows x m =
+    row 8 (otherAnswer x m)
     ∷ row 12 (otherId x m)
     ∷ row 14 (otherNonce x m)
     ∷ row 15 (notOneResponse m)
@@ -70,4 +70,8 @@ endEntityRows x good m =
     ∷ row 18 (badStatus m)
     ∷ row 20 (notAwaited x m)
     ∷ row 21 (noCertificate m)
-    ∷ [])
+    ∷ []
+
+-- the whole table
+unfoldable pub endEntityRows : Enrolment → Bool → Fields → List Row
+endEntityRows x good m = headRows good m ++ answerRows x m

@@ -11,9 +11,17 @@ use Rattle.protocol.specs.declared.Hash.{Hash}
 
 -- ## Kinds
 
--- the requests that open an enrolment: ir, cr, p10cr, kur
+-- the requests that enrol: ir, cr, p10cr, kur
 abbrev pub isEnrolmentKind : ℕ → Bool
 isEnrolmentKind k = eqb k 0 || eqb k 2 || eqb k 4 || eqb k 7
+
+-- what opens a transaction at the registrar
+abbrev pub isOpeningKind : ℕ → Bool
+isOpeningKind k = isEnrolmentKind k
+
+-- what an end entity starts with
+abbrev pub isStartingKind : ℕ → Bool
+isStartingKind k = isEnrolmentKind k
 
 -- ip, cp, kup
 abbrev pub isResponse : ℕ → Bool
@@ -28,9 +36,13 @@ pkiConf = 19
 abbrev pub errorKind : ℕ
 errorKind = 23
 
+-- what is given for a kind that no pair names, as no transaction has one: cp
+abbrev pub unpaired : ℕ
+unpaired = 3
+
 -- the response to a request: "0:1, 2:3, 4:3, 7:8"
 abbrev pub responseTo : ℕ → ℕ
-responseTo k = cond (eqb k 0) 1 (cond (eqb k 7) 8 3)
+responseTo k = cond (eqb k 0) 1 (cond (eqb k 2) 3 (cond (eqb k 4) 3 (cond (eqb k 7) 8 unpaired)))
 
 -- the certReqId of a transaction of this kind (refusal 16)
 abbrev pub requestNumber : ℕ → ℕ

@@ -26,7 +26,7 @@ use Rattle.protocol.specs.Bytes.{asId, asNonce, noNonce, noHash}
 use Rattle.protocol.specs.Message.{Fields, statusOr0, fieldsOf, responseTo}
 use Rattle.protocol.specs.Outgoing.{silent, errorOut, pkiConfOut, responseOut}
 use Rattle.protocol.specs.Table.{freeSlot, put, slotOf, replace, lookup, freeTransaction}
-use Rattle.protocol.specs.States.{isConfirmed, isGranted, settledState, isAsked, mayClose}
+use Rattle.protocol.specs.States.{isConfirmed, isGranted, settledState, mayIssue, mayRefuse, mayLapse, mayClose}
 use Rattle.protocol.specs.Refusals.{bitOf, LowestRow, stop, pass, lowestRow, readRefusal, noFault}
 use Rattle.protocol.specs.RegistrarRows.{registrarRows}
 
@@ -128,19 +128,19 @@ respond t i r s status n h =
 
 -- "issue, Asked to Granted, with hash and nonce, ... with status 0"
 unfoldable pub registrarIssue : TransactionTable → TransactionId → Nonce → Hash → RegistrarAnswer
-registrarIssue t i n h = hostStep (lookup (t .transactions) i) t (λ r. isAsked (r .state)) (λ r. respond t i r Granted 0 n h)
+registrarIssue t i n h = hostStep (lookup (t .transactions) i) t mayIssue (λ r. respond t i r Granted 0 n h)
 
 -- "refuse, Asked to Refused, with nonce, the same order with status 2"
 unfoldable pub registrarRefuse : TransactionTable → TransactionId → Nonce → RegistrarAnswer
-registrarRefuse t i n = hostStep (lookup (t .transactions) i) t (λ r. isAsked (r .state)) (λ r. respond t i r Refused 2 n (r .hash))
+registrarRefuse t i n = hostStep (lookup (t .transactions) i) t mayRefuse (λ r. respond t i r Refused 2 n (r .hash))
 
 abbrev pub replaced : TransactionTable → TransactionId → Transaction → RegistrarAnswer
 replaced t i x = doneQuietly (slotOf (t .transactions) i) (replace (t .transactions) i x)
 
 -- "lapse, Granted to Lapsed"
 unfoldable pub registrarLapse : TransactionTable → TransactionId → RegistrarAnswer
-registrarLapse t i = hostStep (lookup (t .transactions) i) t (λ r. isGranted (r .state)) (λ r. replaced t i (settled r Lapsed (r .taken)))
+registrarLapse t i = hostStep (lookup (t .transactions) i) t mayLapse (λ r. replaced t i (settled r Lapsed (r .taken)))
 
 -- "close, from Confirmed, Declined, Refused or Lapsed to free, as in the empty book"
 unfoldable pub registrarClose : TransactionTable → TransactionId → RegistrarAnswer
-registrarClose t i = hostStep (lookup (t .transactions) i) t (λ r. mayClose (r .state)) (λ r. replaced t i freeTransaction)
+registrarClose t i = hostStep (lookup (t .transactions) i) t mayClose (λ r. replaced t i freeTransaction)

@@ -8,7 +8,7 @@ use Rattle.protocol.specs.declared.Verdict.{Verdict}
 use Rattle.protocol.specs.declared.Transaction.{Transaction}
 use Rattle.protocol.specs.declared.Verdict.the-variants.{Bad, Good}
 use Rattle.protocol.specs.Bytes.{present, isNonce, sameHash}
-use Rattle.protocol.specs.Message.{Fields, isEnrolmentKind, certConf, requestNumber, statusOr0}
+use Rattle.protocol.specs.Message.{Fields, isOpeningKind, certConf, requestNumber, statusOr0}
 use Rattle.protocol.specs.Table.{hasFreeSlot, freeTransaction}
 use Rattle.protocol.specs.States.{hasSent, hasHash, settledBy, isGranted}
 use Rattle.protocol.specs.Refusals.{Row, headRows, row}
@@ -27,7 +27,7 @@ isKnown none = false
 isKnown (some r) = true
 
 abbrev pub opens : Fields → Bool
-opens m = isEnrolmentKind (m .kind)
+opens m = isOpeningKind (m .kind)
 
 abbrev pub confirms : Fields → Bool
 confirms m = eqb (m .kind) certConf
@@ -85,7 +85,7 @@ otherStatus m = confirms m && oneEntry m && not (eqb (statusOr0 (m .status)) 0 |
 
 -- 19: "certHash not the record's 32 bytes, or no hash set"
 abbrev pub otherHash : Transaction → Fields → Bool
-otherHash r m = confirms m && oneEntry m && not (hasHash (r .state) && sameHash (m .hash) (r .hash))
+otherHash r m = confirms m && oneEntry m && not (hasHash r && sameHash (m .hash) (r .hash))
 
 -- "At Confirmed or Declined the same senderNonce, hash and status give again"
 abbrev pub repeats : Transaction → Fields → Bool
@@ -95,22 +95,33 @@ repeats r m = settledBy (r .state) (statusOr0 (m .status)) && isNonce (m .sender
 abbrev pub notTaken : Transaction → Fields → Bool
 notTaken r m = confirms m && not (isGranted (r .state) || repeats r m)
 
--- f is the transaction with the message's id; rows 13 to 20 look at it, or at a free one where there is none
-unfoldable pub registrarRows : List Transaction → Option Transaction → Verdict → Fields → List Row
-registrarRows rs f v m =
-    let r : Transaction = Option·getD f freeTransaction in
-    headRows (isGood v) m
-    ++ (row 8 (otherKind m)
+-- 8 to 14: f is the transaction with the message's id, r the same or a free one where there is none
+abbrev pub transactionRows : List Transaction → Option Transaction → Verdict → Transaction → Fields → List Row
+transactionRows rs f v r m =
+    row 8 (otherKind m)
     ∷ row 9 (opensWithNonce m)
     ∷ row 10 (opensKnown f m)
     ∷ row 11 (opensFull rs m)
     ∷ row 12 (confirmsUnknown f m)
     ∷ row 13 (confirmsForAnother v r m)
     ∷ row 14 (confirmsOtherNonce r m)
-    ∷ row 15 (notOneEntry m)
+    ∷ []
+
+-- 15 to 20
+abbrev pub entryRows : Transaction → Fields → List Row
+entryRows r m =
+    row 15 (notOneEntry m)
     ∷ row 16 (otherRequest r m)
     ∷ row 17 (hashAlgTooEarly m)
     ∷ row 18 (otherStatus m)
     ∷ row 19 (otherHash r m)
     ∷ row 20 (notTaken r m)
-    ∷ [])
+    ∷ []
+
+-- 8 to 20
+abbrev pub laterRows : List Transaction → Option Transaction → Verdict → Transaction → Fields → List Row
+laterRows rs f v r m = transactionRows rs f v r m ++ entryRows r m
+
+-- the whole table: rows 13 to 20 look at the transaction with the message's id, or at a free one where there is none
+unfoldable pub registrarRows : List Transaction → Option Transaction → Verdict → Fields → List Row
+registrarRows rs f v m = headRows (isGood v) m ++ laterRows rs f v (Option·getD f freeTransaction) m

@@ -3,13 +3,14 @@ use Prim.Native.Nat.{ℕ}
 use mathlib.Core.Bool.{Bool, true, false, cond}
 use lib.Dec.{eqb}
 use Rattle.protocol.specs.declared.TransactionState.{TransactionState}
+use Rattle.protocol.specs.declared.Transaction.{Transaction}
 use Rattle.protocol.specs.declared.EnrolmentState.{EnrolmentState}
 use Rattle.protocol.specs.declared.TransactionState.the-variants as at-registrar
 use Rattle.protocol.specs.declared.EnrolmentState.the-variants.{Asked, Confirming, Declining, Sure, Declined, Failed, Unsettled}
 
 -- ## The registrar
 
--- issue and refuse: "Asked to Granted", "Asked to Refused"
+-- the host's answer is awaited
 abbrev pub isAsked : TransactionState → Bool
 isAsked at-registrar.Free = false
 isAsked at-registrar.Asked = true
@@ -19,7 +20,7 @@ isAsked at-registrar.Declined = false
 isAsked at-registrar.Refused = false
 isAsked at-registrar.Lapsed = false
 
--- a certConf moves it; lapse: "Granted to Lapsed"
+-- a certConf is awaited, and moves it
 abbrev pub isGranted : TransactionState → Bool
 isGranted at-registrar.Free = false
 isGranted at-registrar.Asked = false
@@ -40,14 +41,14 @@ hasSent at-registrar.Refused = true
 hasSent at-registrar.Lapsed = true
 
 -- its hash is set
-abbrev pub hasHash : TransactionState → Bool
-hasHash at-registrar.Free = false
-hasHash at-registrar.Asked = false
-hasHash at-registrar.Granted = true
-hasHash at-registrar.Confirmed = true
-hasHash at-registrar.Declined = true
-hasHash at-registrar.Refused = false
-hasHash at-registrar.Lapsed = true
+abbrev pub isHashed : TransactionState → Bool
+isHashed at-registrar.Free = false
+isHashed at-registrar.Asked = false
+isHashed at-registrar.Granted = true
+isHashed at-registrar.Confirmed = true
+isHashed at-registrar.Declined = true
+isHashed at-registrar.Refused = false
+isHashed at-registrar.Lapsed = true
 
 -- a certConf of this status led to this state
 abbrev pub settledBy : TransactionState → ℕ → Bool
@@ -63,15 +64,15 @@ settledBy at-registrar.Lapsed s = false
 abbrev pub settledState : ℕ → TransactionState
 settledState s = cond (eqb s 0) at-registrar.Confirmed at-registrar.Declined
 
--- close: "from Confirmed, Declined, Refused or Lapsed to free"
-abbrev pub mayClose : TransactionState → Bool
-mayClose at-registrar.Free = false
-mayClose at-registrar.Asked = false
-mayClose at-registrar.Granted = false
-mayClose at-registrar.Confirmed = true
-mayClose at-registrar.Declined = true
-mayClose at-registrar.Refused = true
-mayClose at-registrar.Lapsed = true
+-- nothing more is awaited
+abbrev pub isEnded : TransactionState → Bool
+isEnded at-registrar.Free = false
+isEnded at-registrar.Asked = false
+isEnded at-registrar.Granted = false
+isEnded at-registrar.Confirmed = true
+isEnded at-registrar.Declined = true
+isEnded at-registrar.Refused = true
+isEnded at-registrar.Lapsed = true
 
 -- refusal 20: "11 if Confirmed"
 abbrev pub isConfirmed : TransactionState → Bool
@@ -82,6 +83,28 @@ isConfirmed at-registrar.Confirmed = true
 isConfirmed at-registrar.Declined = false
 isConfirmed at-registrar.Refused = false
 isConfirmed at-registrar.Lapsed = false
+
+-- ## What holds of a transaction
+
+-- its hash is set
+abbrev pub hasHash : Transaction → Bool
+hasHash r = isHashed (r .state)
+
+-- issue: "Asked to Granted"
+abbrev pub mayIssue : Transaction → Bool
+mayIssue r = isAsked (r .state)
+
+-- refuse: "Asked to Refused"
+abbrev pub mayRefuse : Transaction → Bool
+mayRefuse r = isAsked (r .state)
+
+-- lapse: "Granted to Lapsed"
+abbrev pub mayLapse : Transaction → Bool
+mayLapse r = isGranted (r .state)
+
+-- close: "from Confirmed, Declined, Refused or Lapsed to free"
+abbrev pub mayClose : Transaction → Bool
+mayClose r = isEnded (r .state)
 
 -- ## The end entity
 

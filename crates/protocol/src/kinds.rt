@@ -1,9 +1,12 @@
-// The kinds of message: which open an enrolment, and how they pair.
+// The kinds of message: which enrol, open and start, and how they pair.
 ghost use mathlib.Core.Path.{_≡_};
-ghost use Rattle.protocol.specs.Message.{isEnrolmentKind, responseTo, requestNumber};
+ghost use Rattle.protocol.specs.Message.{isEnrolmentKind, isOpeningKind, isStartingKind, responseTo, requestNumber};
 
-// The requests that open an enrolment: ir, cr, p10cr, kur.
-pub fn is_enrolment_kind(kind: u8) -> bool
+// What is given for a kind that no pair names.
+const UNPAIRED: u8 = 3;
+
+// The requests that enrol: ir, cr, p10cr, kur.
+fn is_enrolment_kind(kind: u8) -> bool
     ensures { λ r. ⌜ r ≡ isEnrolmentKind kind ⌝ }
 {
     if kind == 0 {
@@ -18,17 +21,37 @@ pub fn is_enrolment_kind(kind: u8) -> bool
     kind == 7
 }
 
-// The kind of the response to a request.
-pub fn response_to(kind: u8) -> u8
-    ensures { λ r. ⌜ r ≡ responseTo kind ⌝ }
+// What opens a transaction at the registrar.
+pub fn is_opening_kind(kind: u8) -> bool
+    ensures { λ r. ⌜ r ≡ isOpeningKind kind ⌝ }
 {
-    if kind == 0 {
+    is_enrolment_kind(kind)
+}
+
+// What an end entity starts with.
+pub fn is_starting_kind(request: u8) -> bool
+    ensures { λ r. ⌜ r ≡ isStartingKind request ⌝ }
+{
+    is_enrolment_kind(request)
+}
+
+// The kind of the response to a request.
+pub fn response_to(request: u8) -> u8
+    ensures { λ r. ⌜ r ≡ responseTo request ⌝ }
+{
+    if request == 0 {
         return 1;
     }
-    if kind == 7 {
+    if request == 2 {
+        return 3;
+    }
+    if request == 4 {
+        return 3;
+    }
+    if request == 7 {
         return 8;
     }
-    3
+    UNPAIRED
 }
 
 // The certReqId of a transaction of this kind.

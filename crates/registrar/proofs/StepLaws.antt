@@ -31,7 +31,7 @@ use Rattle.protocol.specs.Outgoing.{pkiConfOut}
 use Rattle.protocol.specs.Table.{lookup, slotOf, freeSlot, put, freeTransaction}
 use Rattle.protocol.specs.States.{isGranted, isConfirmed, settledState}
 use Rattle.protocol.specs.Refusals.{pass, stop, lowestRow, headRows, bitOf, notSixteen}
-use Rattle.protocol.specs.RegistrarRows.{isGood, registrarRows}
+use Rattle.protocol.specs.RegistrarRows.{isGood, laterRows, registrarRows}
 use Rattle.protocol.specs.Registrar.{boardNamed, doneQuietly, doneSending, settled, confirmedAt, refusedMessage, confirmed, refusedReading, registrarChecked, registrarFields, registrarRead, registrarMessage}
 use Rattle.protocol.proofs.Tests.{passes}
 use Rattle.protocol.specs.Promises.{Applies}
@@ -40,7 +40,7 @@ use Rattle.parts.specs.Parts.{sixteenOf}
 use Rattle.incoming.specs.Incoming.{numberOf, faultOf}
 use Rattle.parts.proofs.Laws.{copy-is}
 use Rattle.incoming.proofs.RowLaws.{check-append, orElse, stops-at, passes-all, allPositive}
-use Rattle.registrar.specs.Steps.{heldAt, withAt, laterRows, foundBy, refusalAnswer, confirmation, repeated, Copied}
+use Rattle.registrar.specs.Steps.{heldAt, withAt, foundBy, refusalAnswer, confirmation, repeated, Copied}
 use Rattle.registrar.proofs.SlotLaws.{free-set, slot-set, getD-past}
 use Rattle.registrar.proofs.HostLaws.{missing, found}
 

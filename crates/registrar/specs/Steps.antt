@@ -1,6 +1,6 @@
--- The registrar's steps once more, over the slot and the plain values that the code hands on; the rows of its table after those that both ends share.
+-- The registrar's steps once more, over the slot and the plain values that the code hands on.
 use Prim.Native.Nat.{ℕ}
-use mathlib.Core.List.{List, [], _∷_}
+use mathlib.Core.List.{List}
 use mathlib.Core.Bool.{Bool, true, false, cond}
 use mathlib.Core.Option.{Option, none, some, Option·getD}
 use mathlib.Core.Path.{_≡_}
@@ -11,7 +11,6 @@ use Rattle.protocol.specs.declared.TransactionId.{TransactionId}
 use Rattle.protocol.specs.declared.Nonce.{Nonce}
 use Rattle.protocol.specs.declared.Hash.{Hash}
 use Rattle.protocol.specs.declared.Outgoing.{Outgoing}
-use Rattle.protocol.specs.declared.Verdict.{Verdict}
 use Rattle.protocol.specs.declared.TransactionState.{TransactionState}
 use Rattle.protocol.specs.declared.Transaction.{Transaction}
 use Rattle.protocol.specs.declared.TransactionTable.{TransactionTable}
@@ -23,8 +22,8 @@ use Rattle.protocol.specs.Message.{Fields, fieldsOf, responseTo}
 use Rattle.protocol.specs.Outgoing.{silent, errorOut, pkiConfOut, responseOut}
 use Rattle.protocol.specs.Table.{freeTransaction, lookup}
 use Rattle.protocol.specs.States.{isGranted, settledState}
-use Rattle.protocol.specs.Refusals.{Row, row, lowestRow, bitOf, noFault}
-use Rattle.protocol.specs.RegistrarRows.{otherKind, opensWithNonce, opensKnown, opensFull, confirmsUnknown, confirmsForAnother, confirmsOtherNonce, notOneEntry, otherRequest, hashAlgTooEarly, otherStatus, otherHash, notTaken}
+use Rattle.protocol.specs.Refusals.{lowestRow, bitOf, noFault}
+use Rattle.protocol.specs.RegistrarRows.{laterRows}
 use Rattle.protocol.specs.Registrar.{doneSending, settled, responded, registrarChecked}
 
 -- ## Slots
@@ -36,25 +35,6 @@ heldAt rs p = getD rs p freeTransaction
 -- the table with another transaction in a slot
 abbrev pub withAt : TransactionTable → ℕ → Transaction → TransactionTable
 withAt t p x = record { transactions = set (t .transactions) p x }
-
--- ## The rows after the first five
-
--- 15 to 20
-abbrev pub entryRows : Transaction → Fields → List Row
-entryRows r m =
-    row 15 (notOneEntry m) ∷ row 16 (otherRequest r m) ∷ row 17 (hashAlgTooEarly m) ∷ row 18 (otherStatus m) ∷ row 19 (otherHash r m) ∷ row 20 (notTaken r m) ∷ []
-
--- 8 to 20: f is the transaction with the message's id, r the same or a free one where there is none
-abbrev pub laterRows : List Transaction → Option Transaction → Verdict → Transaction → Fields → List Row
-laterRows rs f v r m =
-    row 8 (otherKind m)
-    ∷ row 9 (opensWithNonce m)
-    ∷ row 10 (opensKnown f m)
-    ∷ row 11 (opensFull rs m)
-    ∷ row 12 (confirmsUnknown f m)
-    ∷ row 13 (confirmsForAnother v r m)
-    ∷ row 14 (confirmsOtherNonce r m)
-    ∷ entryRows r m
 
 -- the transaction r, if there is one
 abbrev pub foundBy : (known : Bool) → Transaction → Option Transaction

@@ -7,9 +7,10 @@ use crate::slots::find;
 use crate::slots::free_transaction;
 use crate::slots::transaction_at;
 use crate::slots::with_at;
-use crate::states::is_asked;
-use crate::states::is_granted;
 use crate::states::may_close;
+use crate::states::may_issue;
+use crate::states::may_lapse;
+use crate::states::may_refuse;
 use protocol::Hash;
 use protocol::Nonce;
 use protocol::RegistrarAnswer;
@@ -101,8 +102,7 @@ pub fn issue(
     let slot = find(table, id);
     if slot < TransactionTable::CAPACITY {
         let held = transaction_at(table, Slot(slot));
-        let state = held.state;
-        if is_asked(state) {
+        if may_issue(held) {
             return respond(
                 table,
                 Slot(slot),
@@ -126,8 +126,7 @@ pub fn refuse(table: TransactionTable, id: TransactionId, nonce: Nonce) -> Regis
     let slot = find(table, id);
     if slot < TransactionTable::CAPACITY {
         let held = transaction_at(table, Slot(slot));
-        let state = held.state;
-        if is_asked(state) {
+        if may_refuse(held) {
             return respond(
                 table,
                 Slot(slot),
@@ -151,8 +150,7 @@ pub fn lapse(table: TransactionTable, id: TransactionId) -> RegistrarAnswer
     let slot = find(table, id);
     if slot < TransactionTable::CAPACITY {
         let held = transaction_at(table, Slot(slot));
-        let state = held.state;
-        if is_granted(state) {
+        if may_lapse(held) {
             return changed(
                 table,
                 Slot(slot),
@@ -171,8 +169,7 @@ pub fn close(table: TransactionTable, id: TransactionId) -> RegistrarAnswer
     let slot = find(table, id);
     if slot < TransactionTable::CAPACITY {
         let held = transaction_at(table, Slot(slot));
-        let state = held.state;
-        if may_close(state) {
+        if may_close(held) {
             return changed(table, Slot(slot), free_transaction());
         }
         return refused_quietly(31, table);

@@ -6,6 +6,7 @@ use crate::states::is_granted;
 use crate::states::settled_by;
 use grammar::Message;
 use grammar::Span;
+use incoming::rows::or_row;
 use incoming::rows::status_or_0;
 use parts::is_hash;
 use parts::is_nonce;
@@ -14,20 +15,20 @@ use protocol::Board;
 use protocol::Transaction;
 use protocol::TransactionTable;
 use protocol::Verdict;
-use protocol::kinds::is_enrolment_kind;
+use protocol::kinds::is_opening_kind;
 use protocol::kinds::request_number;
 ghost use mathlib.Core.Path.{_≡_};
-ghost use mathlib.Core.Bool.{Bool, true, false, not, _&&_, _||_};
+ghost use mathlib.Core.Bool.{Bool, true, false, not, cond, _&&_, _||_};
 ghost use lib.Dec.{eqb};
 ghost use Rattle.protocol.specs.Bytes.{isNonce, sameBytes};
 ghost use Rattle.grammar.specs.Span.{partOf};
-ghost use Rattle.protocol.specs.Message.{isEnrolmentKind, isPresent, optionalPart, fieldsOf};
+ghost use Rattle.protocol.specs.Message.{isOpeningKind, requestNumber, isPresent, optionalPart, fieldsOf};
 ghost use Rattle.protocol.specs.Table.{hasFreeSlot};
 ghost use Rattle.protocol.specs.States.{hasSent, hasHash, isGranted, settledBy};
 ghost use Rattle.protocol.specs.Refusals.{lowestRow};
-ghost use Rattle.protocol.specs.RegistrarRows.{isGood, names};
-ghost use Rattle.incoming.specs.Incoming.{numberOf};
-ghost use Rattle.registrar.specs.Steps.{laterRows, foundBy};
+ghost use Rattle.protocol.specs.RegistrarRows.{isGood, names, transactionRows, entryRows, laterRows};
+ghost use Rattle.incoming.specs.Incoming.{numberOf, chain};
+ghost use Rattle.registrar.specs.Steps.{foundBy};
 
 // Whether the host found the protection good.
 pub(crate) fn is_good(verdict: Verdict) -> bool
@@ -39,6 +40,48 @@ pub(crate) fn is_good(verdict: Verdict) -> bool
     }
 }
 
+// Of a request (01's opening).
+fn of_request(kind: u8, applies: bool) -> bool
+    ensures { λ r. ⌜ r ≡ (isOpeningKind kind && applies) ⌝ }
+{
+    if is_opening_kind(kind) {
+        return applies;
+    }
+    false
+}
+
+// Of a certConf.
+fn of_cert_conf(kind: u8, applies: bool) -> bool
+    ensures { λ r. ⌜ r ≡ (eqb kind 24 && applies) ⌝ }
+{
+    if kind == 24 {
+        return applies;
+    }
+    false
+}
+
+// Of the one entry of a certConf.
+fn of_one(kind: u8, entries: usize, applies: bool) -> bool
+    ensures { λ r. ⌜ r ≡ (eqb kind 24 && eqb entries 1 && applies) ⌝ }
+{
+    if kind == 24 {
+        if entries == 1 {
+            return applies;
+        }
+    }
+    false
+}
+
+// 8: neither a request nor a certConf.
+fn other_kind(kind: u8) -> bool
+    ensures { λ r. ⌜ r ≡ not (isOpeningKind kind || eqb kind 24) ⌝ }
+{
+    if is_opening_kind(kind) {
+        return false;
+    }
+    kind != 24
+}
+
 // 11: no slot is free.
 fn full(table: TransactionTable) -> bool
     ensures { λ r. ⌜ r ≡ not (hasFreeSlot (table .transactions)) ⌝ }
@@ -47,6 +90,16 @@ fn full(table: TransactionTable) -> bool
         return false;
     }
     true
+}
+
+// 11, of a request: a certConf needs no slot.
+fn opens_full(kind: u8, table: TransactionTable) -> bool
+    ensures { λ r. ⌜ r ≡ (isOpeningKind kind && not (hasFreeSlot (table .transactions))) ⌝ }
+{
+    if is_opening_kind(kind) {
+        return full(table);
+    }
+    false
 }
 
 // 13: the verdict does not name this board.
@@ -72,18 +125,56 @@ fn other_nonce(message: &[u8], span: Span, held: Transaction) -> bool
     true
 }
 
-// 15: not exactly one entry.
-fn not_one(entries: usize) -> bool
-    ensures { λ r. ⌜ r ≡ not (eqb entries 1) ⌝ }
+// The kinds whose entries are counted.
+fn has_entries(kind: u8) -> bool
+    ensures { λ r. ⌜ r ≡ (eqb kind 0 || eqb kind 2 || eqb kind 7 || eqb kind 24) ⌝ }
 {
-    entries != 1
+    if kind == 0 {
+        return true;
+    }
+    if kind == 2 {
+        return true;
+    }
+    if kind == 7 {
+        return true;
+    }
+    kind == 24
+}
+
+// 15: not exactly one entry.
+fn not_one(kind: u8, entries: usize) -> bool
+    ensures { λ r. ⌜ r ≡ ((eqb kind 0 || eqb kind 2 || eqb kind 7 || eqb kind 24) && not (eqb entries 1)) ⌝ }
+{
+    if has_entries(kind) {
+        return entries != 1;
+    }
+    false
+}
+
+// The kind of the transaction that the message is about: a certConf's is held, a request's is its own.
+fn kind_of(kind: u8, held: u8) -> u8
+    ensures { λ r. ⌜ r ≡ cond (eqb kind 24) held kind ⌝ }
+{
+    if kind == 24 { held } else { kind }
+}
+
+// 16: not the number that goes with the transaction's kind.
+fn other_request(kind: u8, entries: usize, number: u32, held: u8) -> bool
+    ensures { λ r. ⌜ r ≡ ((eqb kind 0 || eqb kind 2 || eqb kind 7 || eqb kind 24) && eqb entries 1 && not (eqb number (requestNumber (cond (eqb kind 24) held kind)))) ⌝ }
+{
+    if has_entries(kind) {
+        if entries == 1 {
+            return number != request_number(kind_of(kind, held));
+        }
+    }
+    false
 }
 
 // 17: a hashAlg with pvno 2.
-fn early_hash_alg(alg: Span, version: u32) -> bool
-    ensures { λ r. ⌜ r ≡ (isPresent alg && eqb version 2) ⌝ }
+fn early_hash_alg(kind: u8, entries: usize, alg: Span, version: u32) -> bool
+    ensures { λ r. ⌜ r ≡ (eqb kind 24 && eqb entries 1 && isPresent alg && eqb version 2) ⌝ }
 {
-    if is_present(alg) {
+    if of_one(kind, entries, is_present(alg)) {
         return version == 2;
     }
     false
@@ -104,10 +195,9 @@ fn other_status(status: u32) -> bool
 
 // 19: not the transaction's hash, or none is set.
 fn other_hash(message: &[u8], span: Span, held: Transaction) -> bool
-    ensures { λ r. ⌜ r ≡ not (hasHash (held .state) && sameBytes (partOf (now (message .entry)) span) (held .hash .bytes)) ⌝ }
+    ensures { λ r. ⌜ r ≡ not (hasHash held && sameBytes (partOf (now (message .entry)) span) (held .hash .bytes)) ⌝ }
 {
-    let state = held.state;
-    if has_hash(state) {
+    if has_hash(held) {
         if is_hash(message, span, held.hash) {
             return false;
         }
@@ -131,8 +221,8 @@ fn not_taken(message: &[u8], span: Span, held: Transaction, status: u32) -> bool
     true
 }
 
-// A request (01's opening): 9 to 11, 15 and 16. A p10cr has no entries.
-fn request_refusal(
+// 8 to 14. `held` is the transaction with the message's id where `known` says that there is one.
+fn transaction_refusal(
     table: TransactionTable,
     message: &[u8],
     m: Message,
@@ -140,76 +230,61 @@ fn request_refusal(
     held: Transaction,
     verdict: Verdict,
 ) -> u8
-    requires { ⌜ isEnrolmentKind (m .body .kind) ≡ true ⌝ }
-    ensures { λ r. ⌜ r ≡ numberOf (lowestRow (laterRows (table .transactions) (foundBy known held) verdict held (fieldsOf (now (message .entry)) m))) ⌝ }
+    ensures { λ r. ⌜ r ≡ chain 0 (transactionRows (table .transactions) (foundBy known held) verdict held (fieldsOf (now (message .entry)) m)) ⌝ }
 {
     let header = m.header;
     let body = m.body;
-    let entry = body.entry;
-    if is_present(header.recip_nonce) {
-        return 9;
-    }
-    if known {
-        return 10;
-    }
-    if full(table) {
-        return 11;
-    }
-    if body.kind == 4 {
-        return 0;
-    }
-    if not_one(body.entries) {
-        return 15;
-    }
-    if entry.number != request_number(body.kind) {
-        return 16;
-    }
-    0
+    let kind = body.kind;
+    let nonce = header.recip_nonce;
+    let number = or_row(0, 8, other_kind(kind));
+    let number = or_row(number, 9, of_request(kind, is_present(nonce)));
+    let number = or_row(number, 10, of_request(kind, known));
+    let number = or_row(number, 11, opens_full(kind, table));
+    let number = or_row(number, 12, of_cert_conf(kind, !known));
+    let number = or_row(
+        number,
+        13,
+        of_cert_conf(kind, for_another(verdict, held.board)),
+    );
+    or_row(
+        number,
+        14,
+        of_cert_conf(kind, other_nonce(message, nonce, held)),
+    )
 }
 
-// A certConf for a transaction of the table: 13 to 20.
-fn confirmation_refusal(
-    table: TransactionTable,
-    message: &[u8],
-    m: Message,
-    held: Transaction,
-    verdict: Verdict,
-) -> u8
-    requires { ⌜ m .body .kind ≡ 24 ⌝ }
-    ensures { λ r. ⌜ r ≡ numberOf (lowestRow (laterRows (table .transactions) (foundBy true held) verdict held (fieldsOf (now (message .entry)) m))) ⌝ }
+// 15 to 20, after the number so far.
+fn entry_refusal(so_far: u8, message: &[u8], m: Message, held: Transaction) -> u8
+    ensures { λ r. ⌜ r ≡ chain «so_far» (entryRows held (fieldsOf (now (message .entry)) m)) ⌝ }
 {
     let header = m.header;
     let body = m.body;
     let entry = body.entry;
+    let kind = body.kind;
+    let n = body.entries;
+    let nonce = header.sender_nonce;
     let status = status_or_0(entry);
-    if for_another(verdict, held.board) {
-        return 13;
-    }
-    if other_nonce(message, header.recip_nonce, held) {
-        return 14;
-    }
-    if not_one(body.entries) {
-        return 15;
-    }
-    if entry.number != request_number(held.kind) {
-        return 16;
-    }
-    if early_hash_alg(entry.hash_alg, header.version) {
-        return 17;
-    }
-    if other_status(status) {
-        return 18;
-    }
-    if other_hash(message, entry.cert_hash, held) {
-        return 19;
-    }
-    if not_taken(message, header.sender_nonce, held, status) {
-        return 20;
-    }
-    0
+    let number = or_row(so_far, 15, not_one(kind, n));
+    let number = or_row(number, 16, other_request(kind, n, entry.number, held.kind));
+    let number = or_row(
+        number,
+        17,
+        early_hash_alg(kind, n, entry.hash_alg, header.version),
+    );
+    let number = or_row(number, 18, of_one(kind, n, other_status(status)));
+    let number = or_row(
+        number,
+        19,
+        of_one(kind, n, other_hash(message, entry.cert_hash, held)),
+    );
+    or_row(
+        number,
+        20,
+        of_cert_conf(kind, not_taken(message, nonce, held, status)),
+    )
 }
 
-// 8 to 20. `held` is the transaction with the message's id where `known` says that there is one.
+// 8 to 20.
 pub(crate) fn later_refusal(
     table: TransactionTable,
     message: &[u8],
@@ -220,16 +295,6 @@ pub(crate) fn later_refusal(
 ) -> u8
     ensures { λ r. ⌜ r ≡ numberOf (lowestRow (laterRows (table .transactions) (foundBy known held) verdict held (fieldsOf (now (message .entry)) m))) ⌝ }
 {
-    let body = m.body;
-    let kind = body.kind;
-    if kind == 24 {
-        if known {
-            return confirmation_refusal(table, message, m, held, verdict);
-        }
-        return 12;
-    }
-    if is_enrolment_kind(kind) {
-        return request_refusal(table, message, m, known, held, verdict);
-    }
-    8
+    let number = transaction_refusal(table, message, m, known, held, verdict);
+    entry_refusal(number, message, m, held)
 }

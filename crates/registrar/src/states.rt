@@ -2,10 +2,11 @@
 //
 // A must-fail edit names the text of one line, which has to stand in its file just once. So where an edit turns a line of a
 // table, the table's two values have names of their own.
+use protocol::Transaction;
 use protocol::TransactionState;
 ghost use mathlib.Core.Path.{_≡_};
 ghost use Rattle.protocol.specs.Table.{isFree};
-ghost use Rattle.protocol.specs.States.{isAsked, isGranted, hasSent, hasHash, settledBy, settledState, mayClose, isConfirmed};
+ghost use Rattle.protocol.specs.States.{isAsked, isGranted, hasSent, settledBy, settledState, isConfirmed, hasHash, mayIssue, mayRefuse, mayLapse, mayClose};
 
 pub(crate) fn is_free(s: TransactionState) -> bool
     ensures { λ r. ⌜ r ≡ isFree s ⌝ }
@@ -21,7 +22,7 @@ pub(crate) fn is_free(s: TransactionState) -> bool
     }
 }
 
-pub(crate) fn is_asked(s: TransactionState) -> bool
+fn is_asked(s: TransactionState) -> bool
     ensures { λ r. ⌜ r ≡ isAsked s ⌝ }
 {
     let beyond = false;
@@ -69,12 +70,14 @@ pub(crate) fn has_sent(s: TransactionState) -> bool
     }
 }
 
-pub(crate) fn has_hash(s: TransactionState) -> bool
-    ensures { λ r. ⌜ r ≡ hasHash s ⌝ }
+// Its hash is set.
+pub(crate) fn has_hash(held: Transaction) -> bool
+    ensures { λ r. ⌜ r ≡ hasHash held ⌝ }
 {
     let unset = false;
     let set = true;
-    match s {
+    let state = held.state;
+    match state {
         TransactionState::Free => unset,
         TransactionState::Asked => unset,
         TransactionState::Granted => set,
@@ -109,12 +112,38 @@ pub(crate) fn settled_state(status: u32) -> TransactionState
     }
 }
 
-pub(crate) fn may_close(s: TransactionState) -> bool
-    ensures { λ r. ⌜ r ≡ mayClose s ⌝ }
+// issue
+pub(crate) fn may_issue(held: Transaction) -> bool
+    ensures { λ r. ⌜ r ≡ mayIssue held ⌝ }
+{
+    let state = held.state;
+    is_asked(state)
+}
+
+// refuse
+pub(crate) fn may_refuse(held: Transaction) -> bool
+    ensures { λ r. ⌜ r ≡ mayRefuse held ⌝ }
+{
+    let state = held.state;
+    is_asked(state)
+}
+
+// lapse
+pub(crate) fn may_lapse(held: Transaction) -> bool
+    ensures { λ r. ⌜ r ≡ mayLapse held ⌝ }
+{
+    let state = held.state;
+    is_granted(state)
+}
+
+// close
+pub(crate) fn may_close(held: Transaction) -> bool
+    ensures { λ r. ⌜ r ≡ mayClose held ⌝ }
 {
     let running = false;
     let ended = true;
-    match s {
+    let state = held.state;
+    match state {
         TransactionState::Free => running,
         TransactionState::Asked => running,
         TransactionState::Granted => running,

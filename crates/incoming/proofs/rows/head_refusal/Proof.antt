@@ -1,53 +1,39 @@
--- Row by row, as the table has them.
+-- The code walks the table as `chain` does: each row by its place.
 use mathlib.Core.Bool.{not}
-use mathlib.Core.Path.{ap}
-use Rattle.der.proofs.Auto.{tests, told}
+use mathlib.Core.Path.{refl, _∙_}
+use borrow.Author.Needs.{needs}
 use Rattle.protocol.specs.Message.{fieldsOf}
-use Rattle.protocol.proofs.Rows.{through, halt, skip}
-use Rattle.incoming.proofs.RowLaws.{lowest}
+use Rattle.protocol.specs.Refusals.{headRows}
+use Rattle.incoming.specs.Incoming.{chain}
+use Rattle.incoming.proofs.RowLaws.{allPositive, chain-is, next}
 use Rattle.incoming.proofs.rows.head_refusal.Statement.{statement}
 use Rattle.incoming.proofs.rows.head_refusal.Tie as tie
 
+returns : tie.Need-returns
+unfolding fieldsOf allPositive chain
+returns c =
+    let r7 = c in
+    let r6 = r7 .before in
+    let r5 = r6 .before .before in
+    let r4 = r5 .before .before in
+    let r3 = r4 .before .before in
+    let s = r3 .before .before .before .before in
+    let to-3 = next 3 {r = 0} {x = 0} (r3 .or-row .ensures) refl (r3 .before .other-version .ensures) in
+    let to-4 = next 4 (r4 .or-row2 .ensures) to-3 (r4 .before .not-sixteen .ensures) in
+    let to-5 = next 5 (r5 .or-row3 .ensures) to-4 (r5 .before .not-sixteen2 .ensures) in
+    let to-6 = next 6 (r6 .or-row4 .ensures) to-5 (r6 .before .unprotected .ensures) in
+    next 7 {b = not (s .args .good)} (r7 .or-row5 .ensures) to-6 refl
+    ∙ chain-is (headRows (s .args .good) (fieldsOf (s .args .message .now) (s .args .m))) refl
+
 pub head-refusal-spec : {M : Type 1} → statement M
-unfolding fieldsOf
 head-refusal-spec = tie.close (tie.spec
-    (λ c κs. search tests)
-    (λ c. lowest (halt (told (c .before .other-version .ensures) (c .if1 .taken))))
-    (λ c κs. search tests)
-    (λ c. lowest (skip (told (c .before .before .before .other-version .ensures) (c .before .before .if1 .left)) (halt (told (c .before .not-sixteen .ensures) (c .if2 .taken)))))
-    (λ c κs. search tests)
-    (λ c.
-    let p = c .before .before in
-    let q = p .before .before in
-    lowest (skip (told (q .before .other-version .ensures) (q .if1 .left))
-    (skip (told (p .before .not-sixteen .ensures) (p .if2 .left))
-    (halt (told (c .before .not-sixteen2 .ensures) (c .if3 .taken))))))
-    (λ c κs. search tests)
-    (λ c.
-    let o = c .before .before in
-    let p = o .before .before in
-    let q = p .before .before in
-    lowest (skip (told (q .before .other-version .ensures) (q .if1 .left))
-    (skip (told (p .before .not-sixteen .ensures) (p .if2 .left))
-    (skip (told (o .before .not-sixteen2 .ensures) (o .if3 .left))
-    (halt (told (c .before .unprotected .ensures) (c .if4 .taken)))))))
-    (λ c.
-    let n = c .before in
-    let o = n .before .before in
-    let p = o .before .before in
-    let q = p .before .before in
-    lowest (skip (told (q .before .other-version .ensures) (q .if1 .left))
-    (skip (told (p .before .not-sixteen .ensures) (p .if2 .left))
-    (skip (told (o .before .not-sixteen2 .ensures) (o .if3 .left))
-    (skip (told (n .before .unprotected .ensures) (n .if4 .left))
-    (skip (ap not (c .if5 .taken)) through))))))
-    (λ c.
-    let n = c .before in
-    let o = n .before .before in
-    let p = o .before .before in
-    let q = p .before .before in
-    lowest (skip (told (q .before .other-version .ensures) (q .if1 .left))
-    (skip (told (p .before .not-sixteen .ensures) (p .if2 .left))
-    (skip (told (o .before .not-sixteen2 .ensures) (o .if3 .left))
-    (skip (told (n .before .unprotected .ensures) (n .if4 .left))
-    (halt (ap not (c .if5 .left)))))))))
+    (λ c κs. search needs)
+    (λ c κs. search needs)
+    (λ c κs. search needs)
+    (λ c κs. search needs)
+    (λ c κs. search needs)
+    (λ c κs. search needs)
+    (λ c κs. search needs)
+    (λ c κs. search needs)
+    (λ c κs. search needs)
+    returns)

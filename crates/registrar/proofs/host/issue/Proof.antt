@@ -16,7 +16,7 @@ returns c =
     c .respond .ensures
     ∙ sending (args .table) (args .id) (found .find .ensures) (held .transaction-at .result) _ _ _ _
     ∙ allowed (args .table) (args .id) (found .find .ensures) _ _
-    (held .transaction-at .ensures) (held .before .if1 .taken) (tested .is-asked .ensures) (c .before .if2 .taken)
+    (held .transaction-at .ensures) (held .before .if1 .taken) (tested .may-issue .ensures) (c .before .if2 .taken)
 
 returns-2 : tie.Need-returns-2
 unfolding registrarIssue
@@ -27,7 +27,7 @@ returns-2 c =
     let args = found .before .args in
     c .refused-quietly .ensures
     ∙ not-allowed (args .table) (args .id) (found .find .ensures) _ _
-    (held .transaction-at .ensures) (held .before .if1 .taken) (tested .is-asked .ensures) (c .before .if2 .left)
+    (held .transaction-at .ensures) (held .before .if1 .taken) (tested .may-issue .ensures) (c .before .if2 .left)
 
 returns-3 : tie.Need-returns-3
 unfolding registrarIssue

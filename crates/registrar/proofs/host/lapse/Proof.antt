@@ -17,7 +17,7 @@ returns c =
     c .changed .ensures
     ∙ quietly (args .table) (args .id) (found .find .ensures) (made .settled .ensures)
     ∙ allowed (args .table) (args .id) (found .find .ensures) _ _
-    (held .transaction-at .ensures) (held .before .if1 .taken) (tested .is-granted .ensures) (made .before .if2 .taken)
+    (held .transaction-at .ensures) (held .before .if1 .taken) (tested .may-lapse .ensures) (made .before .if2 .taken)
 
 returns-2 : tie.Need-returns-2
 unfolding registrarLapse
@@ -28,7 +28,7 @@ returns-2 c =
     let args = found .before .args in
     c .refused-quietly .ensures
     ∙ not-allowed (args .table) (args .id) (found .find .ensures) _ _
-    (held .transaction-at .ensures) (held .before .if1 .taken) (tested .is-granted .ensures) (c .before .if2 .left)
+    (held .transaction-at .ensures) (held .before .if1 .taken) (tested .may-lapse .ensures) (c .before .if2 .left)
 
 returns-3 : tie.Need-returns-3
 unfolding registrarLapse
