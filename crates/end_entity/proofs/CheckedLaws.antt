@@ -1,12 +1,9 @@
 -- What becomes of a message that reads, by the number of the row that refuses it; and the nonce that it is answered by.
 use Prim.Native.Nat.{ℕ}
 use mathlib.Core.List.{List}
-use mathlib.Core.Bool.{Bool, true, false, not, cond}
-use mathlib.Core.Option.{none, some}
-use mathlib.Core.Path.{_≡_, refl, sym, _∙_}
+use mathlib.Core.Bool.{true, false, not}
+use mathlib.Core.Path.{_≡_, refl, _∙_}
 use borrow.Author.Tests.{ne-eqb}
-use lib.ListN.{length}
-use lib.Dec.{eqb}
 use Rattle.grammar.specs.declared.Message.{Message}
 use Rattle.message.specs.Read.{readingOf}
 use Rattle.message.specs.declared.ReadFault.{ReadFault}
@@ -19,12 +16,12 @@ use Rattle.protocol.specs.declared.EndEntityAnswer.{EndEntityAnswer}
 use Rattle.protocol.specs.declared.EndEntityInput.{EndEntityInput}
 use Rattle.protocol.specs.Bytes.{asNonce, bytesOf}
 use Rattle.grammar.specs.Span.{partOf}
-use Rattle.protocol.specs.Message.{Fields, fieldsOf, optionalPart, isPresent, statusOr0}
+use Rattle.protocol.specs.Message.{Fields, fieldsOf, isResponse, optionalPart, statusOr0}
 use Rattle.protocol.specs.States.{assured, brokenState}
-use Rattle.protocol.specs.Refusals.{Row, LowestRow, lowestRow, pass, notSixteen}
+use Rattle.protocol.specs.Refusals.{Row, lowestRow, pass, notSixteen}
 use Rattle.protocol.specs.EndEntityRows.{endEntityRows}
 use Rattle.protocol.specs.EndEntity.{enrolmentRefused, enrolmentUnread, enrolmentMoved, inState, afterRefusal, confirming, endEntityChecked, endEntityRead, endEntityMessage}
-use Rattle.protocol.proofs.Tests.{true-false, not-false, passes}
+use Rattle.protocol.proofs.Tests.{passes}
 use Rattle.parts.specs.Parts.{sixteenOf}
 use Rattle.incoming.specs.Incoming.{numberOf, faultOf}
 use Rattle.parts.proofs.Laws.{copy-is}
@@ -57,13 +54,17 @@ module _ (x : Enrolment) (d : EndEntityInput) (m : Fields) where
   reported k = rw k
 
   module _ (no-pkiconf : m .kind ≡ 19 → ⊥) (no-error : m .kind ≡ 23 → ⊥) where
-    pub failed : statusOr0 (m .status) ≡ 2 → Answers (enrolmentMoved (inState x Failed))
+    pub failed : isResponse (m .kind) ≡ true → statusOr0 (m .status) ≡ 2 → Answers (enrolmentMoved (inState x Failed))
     unfolding endEntityChecked
-    failed s = rw (ne-eqb (m .kind) 19 no-pkiconf, ne-eqb (m .kind) 23 no-error, s)
+    failed r s = rw (ne-eqb (m .kind) 19 no-pkiconf, ne-eqb (m .kind) 23 no-error, r, s)
 
-    pub confirmed : (statusOr0 (m .status) ≡ 2 → ⊥) → Answers (confirming x (d .accept) (d .hash) (d .nonce) (asNonce (m .senderNonce)))
+    pub confirmed : isResponse (m .kind) ≡ true → (statusOr0 (m .status) ≡ 2 → ⊥) → Answers (confirming x (d .accept) (d .hash) (d .nonce) (asNonce (m .senderNonce)))
     unfolding endEntityChecked
-    confirmed s = rw (ne-eqb (m .kind) 19 no-pkiconf, ne-eqb (m .kind) 23 no-error, ne-eqb (statusOr0 (m .status)) 2 s)
+    confirmed r s = rw (ne-eqb (m .kind) 19 no-pkiconf, ne-eqb (m .kind) 23 no-error, r, ne-eqb (statusOr0 (m .status)) 2 s)
+
+    pub neither : isResponse (m .kind) ≡ false → Answers (enrolmentRefused 8 x)
+    unfolding endEntityChecked
+    neither r = rw (ne-eqb (m .kind) 19 no-pkiconf, ne-eqb (m .kind) 23 no-error, r)
 
 -- ## The response's nonce
 

@@ -13,6 +13,7 @@ use crate::answers::started;
 use crate::answers::unread;
 use crate::rows::ERROR;
 use crate::rows::PKI_CONF;
+use crate::rows::is_response;
 use crate::rows::lowest_refusal;
 use crate::states::assured_state;
 use crate::states::broken_state;
@@ -61,7 +62,8 @@ fn after_refusal(number: u8, bytes: &[u8], m: Message, enrolment: Enrolment) -> 
     enrolment
 }
 
-// A message that no row refuses: of any with this kind, status and senderNonce.
+// A message that no row refuses, by its kind: of any with this kind, status and senderNonce. Of another kind none comes
+// here.
 fn taken(
     enrolment: Enrolment,
     input: EndEntityInput,
@@ -78,10 +80,13 @@ fn taken(
     if kind == ERROR {
         return moved(enrolment, broken_state(state));
     }
-    if status == 2 {
-        return moved(enrolment, EnrolmentState::Failed);
+    if is_response(kind) {
+        if status == 2 {
+            return moved(enrolment, EnrolmentState::Failed);
+        }
+        return confirm(enrolment, input, answered);
     }
-    confirm(enrolment, input, answered)
+    refused(8, enrolment)
 }
 
 // A message that reads: refused by the table's lowest row, or taken.

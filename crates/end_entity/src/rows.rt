@@ -32,7 +32,7 @@ pub const PKI_CONF: u8 = 19;
 pub const ERROR: u8 = 23;
 
 // ip, cp, kup
-fn is_response(kind: u8) -> bool
+pub(crate) fn is_response(kind: u8) -> bool
     ensures { λ r. ⌜ r ≡ isResponse kind ⌝ }
 {
     if kind == 1 {

@@ -15,12 +15,13 @@ use Rattle.protocol.specs.declared.EnrolmentState.{EnrolmentState}
 use Rattle.protocol.specs.declared.Enrolment.{Enrolment}
 use Rattle.protocol.specs.declared.EndEntityAnswer.{EndEntityAnswer}
 use Rattle.protocol.specs.Bytes.{asNonce}
-use Rattle.protocol.specs.Message.{Fields, fieldsOf, isStartingKind, pkiConf, errorKind, statusOr0}
+use Rattle.protocol.specs.Message.{Fields, fieldsOf, isStartingKind, statusOr0}
 use Rattle.protocol.specs.Refusals.{LowestRow, pass, stop, lowestRow}
 use Rattle.protocol.specs.EndEntityRows.{endEntityRows}
 use Rattle.protocol.specs.States.{isWaiting, isConfirming}
 use Rattle.protocol.specs.EndEntity.{inState, enrolmentMoved, endEntityStart, afterRefusal, endEntityChecked, endEntityRead, endEntityMessage, endEntityTimeOut}
 use Rattle.protocol.proofs.Tests.{cases}
+use Rattle.protocol.proofs.EndEntityPasses.{answered-by}
 use Rattle.packed.specs.Enrolment.{EnrolmentSized}
 use Rattle.packed.specs.Outgoing.{OutgoingSized}
 use Rattle.packed.specs.Answer.{OutcomeBack}
@@ -61,9 +62,7 @@ module _ (x : Enrolment) (z : EnrolmentSized x) where
     unfolding endEntityChecked afterRefusal
     checked-sized m (stop k) e = record { enrolment = z; outgoing = silent-sized; outcome = bit-back k false }
     checked-sized m pass e =
-        cases EndEntitySized (eqb (m .kind) pkiConf) _ _ (λ _. moved-sized _)
-        (λ _.
-        cases EndEntitySized (eqb (m .kind) errorKind) _ _ (λ _. moved-sized _)
+        answered-by x d m EndEntitySized e (λ _. moved-sized _) (λ _. moved-sized _)
         (λ _.
         cases EndEntitySized (eqb (statusOr0 (m .status)) 2) _ _ (λ _. moved-sized _)
         (λ _.
@@ -71,7 +70,7 @@ module _ (x : Enrolment) (z : EnrolmentSized x) where
           enrolment = record { id = z .id; last = n; taken = sender m e; hash = h };
           outgoing = record { id = z .id; sender = n; recip = sender m e; hash = h; failure = refl };
           outcome = tt;
-        })))
+        }))
 
     read-sized : (bytes : List ℕ) (r : Reading) → EndEntitySized (endEntityRead r x d bytes)
     unfolding endEntityRead

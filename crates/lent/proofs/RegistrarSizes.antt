@@ -3,7 +3,7 @@ use Prim.Native.Nat.{ℕ, _<_}
 use mathlib.Core.List.{List}
 use mathlib.Core.Bool.{Bool, false}
 use mathlib.Core.Option.{Option, none, some}
-use mathlib.Core.Path.{_≡_, refl, sym, subst}
+use mathlib.Core.Path.{_≡_, refl, sym, _∙_, subst}
 use native.Mathlib.Omega.{arith}
 use lib.ListN.{length}
 use lib.Dec.{leb}
@@ -25,6 +25,7 @@ use Rattle.protocol.specs.States.{isGranted, mayIssue, mayRefuse, mayLapse, may
 use Rattle.protocol.specs.Table.{lookup, slotOf, freeSlot}
 use Rattle.protocol.specs.Registrar.{hostStep, refusedQuietly, registrarIssue, registrarRefuse, registrarLapse, registrarClose, registrarChecked, registrarFields, registrarRead, registrarMessage}
 use Rattle.protocol.proofs.Tests.{cases}
+use Rattle.protocol.proofs.RegistrarPasses.{taken-by}
 use Rattle.packed.specs.Table.{TransactionSized, TableSized}
 use Rattle.packed.specs.Outgoing.{OutgoingSized}
 use Rattle.packed.specs.Answer.{OutcomeBack}
@@ -109,16 +110,16 @@ module _ (t : TransactionTable) (z : TableSized t) where
           outcome = bit-back k _;
           slot = omega arith;
         }
-    checked-sized m none h pass e =
-        let q : NamesSized m = names m none pass e tt in
-        record { table = put-sized t z _ (record { id = q .0; taken = q .1; sent = refl; hash = refl }); outgoing = silent-sized; outcome = tt; slot = free-small t z }
-    checked-sized m (some r) h pass e =
-        let q : NamesSized m = names m (some r) pass e tt in
-        let s : TransactionSized r = lookup-sized (t .transactions) (asId (m .id)) (z .each) r h in
+    checked-sized m f h pass e =
+        let q : NamesSized m = names m f pass e tt in
         let o : OutgoingSized _ = record { id = q .0; sender = n; recip = q .1; hash = refl; failure = refl } in
+        taken-by t d m RegistrarSized f e
+        (λ _ _ _. record { table = put-sized t z _ (record { id = q .0; taken = q .1; sent = refl; hash = refl }); outgoing = silent-sized; outcome = tt; slot = free-small t z })
+        (λ r _ w _.
+        let s : TransactionSized r = lookup-sized (t .transactions) (asId (m .id)) (z .each) r (h ∙ w) in
         cases RegistrarSized (isGranted (r .state)) _ _
         (λ _. record { table = replace-sized t z (asId (m .id)) _ (record { id = s .id; taken = q .1; sent = s .sent; hash = s .hash }); outgoing = o; outcome = tt; slot = slot-small t z (asId (m .id)) })
-        (λ _. record { table = z; outgoing = o; outcome = tt; slot = slot-small t z (asId (m .id)) })
+        (λ _. record { table = z; outgoing = o; outcome = tt; slot = slot-small t z (asId (m .id)) }))
 
     read-sized : (bytes : List ℕ) (r : Reading) → RegistrarSized (registrarRead r t d bytes)
     unfolding registrarRead registrarFields

@@ -29,14 +29,14 @@ use Rattle.protocol.specs.Message.{isPresent, optionalPart, Fields, fiel
 use Rattle.protocol.specs.Table.{lookup}
 use Rattle.protocol.specs.States.{settledBy, isGranted}
 use Rattle.protocol.specs.Refusals.{notSixteen, LowestRow, lowestRow, pass, stop}
-use Rattle.protocol.specs.RegistrarRows.{names, registrarRows}
+use Rattle.protocol.specs.RegistrarRows.{names, confirms, registrarRows}
 use Rattle.protocol.specs.Registrar.{registrarFields, registrarChecked, registrarMessage, registrarRead, confirmed}
 use Rattle.protocol.specs.Confirmation.{Sixteen, Matches, LeadsTo, Repeating, Moving}
 use Rattle.der.proofs.Auto.{and-left, and-right}
 use Rattle.protocol.proofs.Tests.{true-false, other-than, some-some, none-some, eqb-eq, not-false, holds-not, same-number, board-eq}
 use Rattle.protocol.proofs.RegistrarStates.{settled-one, is-granted}
 use Rattle.protocol.proofs.Carried.{part-there}
-use Rattle.protocol.proofs.RegistrarPasses.{protected-it, id-it, sender-it, recip-it, kind-is, one-it, names-it, version-it, alg-it, request-it, hash-it, known-it, same-nonce-it, takes-it, opens-it}
+use Rattle.protocol.proofs.RegistrarPasses.{protected-it, id-it, sender-it, recip-it, kind-is, one-it, names-it, version-it, alg-it, request-it, hash-it, known-it, same-nonce-it, takes-it, taken-by}
 
 -- ## Parts
 
@@ -91,22 +91,22 @@ module _ (t : TransactionTable) (d : RegistrarInput) (bytes : List ℕ) (m : Mes
   status-known true h e k = k
   status-known false h e k = true-false (sym e)
 
-  matches : readingOf bytes ≡ read.Clean m → (r : Transaction) → lookup rs (asId (f .id)) ≡ some r → lowestRow (registrarRows rs (some r) (d .verdict) f) ≡ pass → Matches t d bytes m r
+  matches : readingOf bytes ≡ read.Clean m → (r : Transaction) → lookup rs (asId (f .id)) ≡ some r → lowestRow (registrarRows rs (some r) (d .verdict) f) ≡ pass → confirms f ≡ true → Matches t d bytes m r
   unfolding fieldsOf
-  matches reads r h e =
-      let p : (isPresent (m .protection) && isPresent (m .header .«protection_alg»)) ≡ true = protected-it rs r (d .verdict) f e in
-      let i : Sixteen bytes (m .header .«transaction_id») (partOf bytes (m .header .«transaction_id»)) = sixteen bytes (m .header .«transaction_id») (id-it rs r (d .verdict) f e) in
-      let n : Sixteen bytes (m .header .«sender_nonce») (partOf bytes (m .header .«sender_nonce»)) = sixteen bytes (m .header .«sender_nonce») (sender-it rs r (d .verdict) f e) in
-      let a : (m .header .«recip_nonce» .start .0 ≡ 0 → ⊥) × (partOf bytes (m .header .«recip_nonce») ≡ r .sent .bytes) = part-of bytes (m .header .«recip_nonce») (r .sent .bytes) (isPresent (m .header .«recip_nonce»)) refl (recip-it rs r (d .verdict) f e) in
+  matches reads r h e k =
+      let p : (isPresent (m .protection) && isPresent (m .header .«protection_alg»)) ≡ true = protected-it rs r (d .verdict) f e k in
+      let i : Sixteen bytes (m .header .«transaction_id») (partOf bytes (m .header .«transaction_id»)) = sixteen bytes (m .header .«transaction_id») (id-it rs r (d .verdict) f e k) in
+      let n : Sixteen bytes (m .header .«sender_nonce») (partOf bytes (m .header .«sender_nonce»)) = sixteen bytes (m .header .«sender_nonce») (sender-it rs r (d .verdict) f e k) in
+      let a : (m .header .«recip_nonce» .start .0 ≡ 0 → ⊥) × (partOf bytes (m .header .«recip_nonce») ≡ r .sent .bytes) = part-of bytes (m .header .«recip_nonce») (r .sent .bytes) (isPresent (m .header .«recip_nonce»)) refl (recip-it rs r (d .verdict) f e k) in
       record {
         reads = reads;
-        kind = kind-is rs r (d .verdict) f e;
-        entries = eqb-eq (f .entries) 1 (one-it rs r (d .verdict) f e);
+        kind = kind-is rs r (d .verdict) f e k;
+        entries = eqb-eq (f .entries) 1 (one-it rs r (d .verdict) f e k);
         protection = present-part (m .protection) (and-left (isPresent (m .protection)) (isPresent (m .header .«protection_alg»)) p);
         algorithm = present-part (m .header .«protection_alg») (and-right (isPresent (m .protection)) (isPresent (m .header .«protection_alg»)) p);
-        good = names-good (d .verdict) (r .board) (names-it rs r (d .verdict) f e);
-        version = version-it rs r (d .verdict) f e;
-        hashAlg = λ q. alg-it rs r (d .verdict) f e (part-present (m .body .entry .«hash_alg») q);
+        good = names-good (d .verdict) (r .board) (names-it rs r (d .verdict) f e k);
+        version = version-it rs r (d .verdict) f e k;
+        hashAlg = λ q. alg-it rs r (d .verdict) f e k (part-present (m .body .entry .«hash_alg») q);
         id = record { bytes = partOf bytes (m .header .«transaction_id») };
         hasId = i;
         holds = ap (λ (x : Option (List ℕ)). lookup rs (asId x)) (sym (part-there bytes (m .header .«transaction_id») _ (i .0, refl))) ∙ h;
@@ -114,9 +114,9 @@ module _ (t : TransactionTable) (d : RegistrarInput) (bytes : List ℕ) (m : Mes
         senderNonce = n;
         recipPresent = a .0;
         recipNonce = a .1;
-        request = request-it rs r (d .verdict) f e;
-        hash = ap (λ (x : Hash). x .bytes) (hash-it rs r (d .verdict) f e);
-        status = λ q. status-known (m .body .entry .«has_status») refl q (known-it rs r (d .verdict) f e);
+        request = request-it rs r (d .verdict) f e k;
+        hash = ap (λ (x : Hash). x .bytes) (hash-it rs r (d .verdict) f e k);
+        status = λ q. status-known (m .body .entry .«has_status») refl q (known-it rs r (d .verdict) f e k);
       }
 
   leads-by : (b : Bool) → m .body .entry .«has_status» ≡ b → (s : TransactionState) → settledBy s (statusOr0 (optionalStatus b (m .body .entry .status))) ≡ true → (s ≡ at-registrar.Confirmed) ⊎ (s ≡ at-registrar.Declined) → LeadsTo m s
@@ -125,15 +125,15 @@ module _ (t : TransactionTable) (d : RegistrarInput) (bytes : List ℕ) (m : Mes
   leads-by false h s e (inl c) = inl (c, inl h)
   leads-by false h s e (inr c) = true-false (sym e ∙ ap (λ (z : TransactionState). settledBy z 0) c)
 
-  repeating : readingOf bytes ≡ read.Clean m → (r : Transaction) → lookup rs (asId (f .id)) ≡ some r → lowestRow (registrarRows rs (some r) (d .verdict) f) ≡ pass → isGranted (r .state) ≡ false → Repeating t d bytes m r
+  repeating : readingOf bytes ≡ read.Clean m → (r : Transaction) → lookup rs (asId (f .id)) ≡ some r → lowestRow (registrarRows rs (some r) (d .verdict) f) ≡ pass → confirms f ≡ true → isGranted (r .state) ≡ false → Repeating t d bytes m r
   unfolding fieldsOf matches
-  repeating reads r h e g =
-      let n : Sixteen bytes (m .header .«sender_nonce») (partOf bytes (m .header .«sender_nonce»)) = sixteen bytes (m .header .«sender_nonce») (sender-it rs r (d .verdict) f e) in
-      let p : partOf bytes (m .header .«sender_nonce») ≡ r .taken .bytes = some-some (sym (part-there bytes (m .header .«sender_nonce») _ (n .0, refl)) ∙ same-nonce-it rs r (d .verdict) f e g) in
+  repeating reads r h e k g =
+      let n : Sixteen bytes (m .header .«sender_nonce») (partOf bytes (m .header .«sender_nonce»)) = sixteen bytes (m .header .«sender_nonce») (sender-it rs r (d .verdict) f e k) in
+      let p : partOf bytes (m .header .«sender_nonce») ≡ r .taken .bytes = some-some (sym (part-there bytes (m .header .«sender_nonce») _ (n .0, refl)) ∙ same-nonce-it rs r (d .verdict) f e k g) in
       record {
-        match = matches reads r h e;
+        match = matches reads r h e k;
         nonce = λ i. record { bytes = p i };
-        state = leads-by (m .body .entry .«has_status») refl (r .state) (takes-it rs r (d .verdict) f e g) (settled-one (r .state) _ (takes-it rs r (d .verdict) f e g));
+        state = leads-by (m .body .entry .«has_status») refl (r .state) (takes-it rs r (d .verdict) f e k g) (settled-one (r .state) _ (takes-it rs r (d .verdict) f e k g));
       }
 
   -- how a confirmation that passes the rows ends
@@ -142,10 +142,10 @@ module _ (t : TransactionTable) (d : RegistrarInput) (bytes : List ℕ) (m : Mes
   Ends r outcome.Again = Repeating t d bytes m r
   Ends r (outcome.Refused n b) = ⊥
 
-  passed-at : readingOf bytes ≡ read.Clean m → (r : Transaction) → lookup rs (asId (f .id)) ≡ some r → lowestRow (registrarRows rs (some r) (d .verdict) f) ≡ pass → (b : Bool) → isGranted (r .state) ≡ b → Ends r ((confirmed t r (d .nonce) f) .outcome)
+  passed-at : readingOf bytes ≡ read.Clean m → (r : Transaction) → lookup rs (asId (f .id)) ≡ some r → lowestRow (registrarRows rs (some r) (d .verdict) f) ≡ pass → confirms f ≡ true → (b : Bool) → isGranted (r .state) ≡ b → Ends r ((confirmed t r (d .nonce) f) .outcome)
   unfolding Ends
-  passed-at reads r h e true g = rw g (record { match = matches reads r h e; granted = is-granted (r .state) g })
-  passed-at reads r h e false g = rw g (repeating reads r h e g)
+  passed-at reads r h e k true g = rw g (record { match = matches reads r h e k; granted = is-granted (r .state) g })
+  passed-at reads r h e k false g = rw g (repeating reads r h e k g)
 
   -- a confirmation that is not refused
   unfoldable pub EndsWith : Outcome → Type 0
@@ -162,8 +162,9 @@ module _ (t : TransactionTable) (d : RegistrarInput) (bytes : List ℕ) (m : Mes
   ends-by : readingOf bytes ≡ read.Clean m → f .kind ≡ 24 → (g : Option Transaction) → lookup rs (asId (f .id)) ≡ g → (c : LowestRow) → lowestRow (registrarRows rs g (d .verdict) f) ≡ c → EndsWith ((registrarChecked c g t d f) .outcome)
   unfolding registrarChecked EndsWith
   ends-by reads k g h (stop n) e = tt
-  ends-by reads k none h pass e = true-false (sym (opens-it rs (d .verdict) f e) ∙ ap isOpeningKind k)
-  ends-by reads k (some r) h pass e = some-end r _ (passed-at reads r h e (isGranted (r .state)) refl)
+  ends-by reads k g h pass e =
+      taken-by t d f (λ (a : RegistrarAnswer). EndsWith (a .outcome)) g e (λ o _ _. true-false (sym o ∙ ap isOpeningKind k))
+      (λ r c n p. some-end r _ (passed-at reads r (h ∙ n) p c (isGranted (r .state)) refl))
 
   pub ends : readingOf bytes ≡ read.Clean m → m .body .kind ≡ 24 → EndsWith (registrarMessage t d bytes .outcome)
   unfolding fieldsOf

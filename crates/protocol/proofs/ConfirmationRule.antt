@@ -6,7 +6,6 @@ use mathlib.Core.Option.{Option, some}
 use mathlib.Core.Path.{_≡_, refl, sym, _∙_, ap, subst}
 use mathlib.Core.Logic.{inl, inr}
 use lib.Dec.{eqb}
-use Rattle.message.specs.Read.{readingOf}
 use Rattle.grammar.specs.declared.Message.{Message}
 use Rattle.protocol.specs.declared.Nonce.{Nonce}
 use Rattle.protocol.specs.declared.RegistrarInput.{RegistrarInput}
@@ -23,7 +22,7 @@ use Rattle.protocol.specs.Table.{hasFreeSlot, lookup, slotOf, replace}
 use Rattle.protocol.specs.States.{hasSent, isHashed, hasHash, isGranted, settledState, settledBy}
 use Rattle.protocol.specs.Refusals.{otherVersion, noTransactionId, noSenderNonce, unprotected, pass, lowestRow, noFault}
 use Rattle.protocol.specs.RegistrarRows.{repeats, confirms, opens, oneEntry, isGood, otherKind, confirmsForAnother, names, confirmsOtherNonce, notOneEntry, hasEntries, otherRequest, hashAlgTooEarly, otherStatus, otherHash, notTaken, registrarRows}
-use Rattle.protocol.specs.Registrar.{registrarMessage, confirmed, registrarChecked, doneSending}
+use Rattle.protocol.specs.Registrar.{registrarMessage, confirmed, doneSending}
 use Rattle.protocol.specs.MessageRules.{IsRefused}
 use Rattle.protocol.specs.Confirmation.{Matches, LeadsTo, Moving, MovedAnswer, Repeating, RepeatedAnswer, acknowledgement, ConfirmationRule}
 use Rattle.protocol.proofs.Tests.{same-number, holds-not, either, both, or-true, off-right, sameBytes-refl, off-left, true-false}
@@ -31,6 +30,7 @@ use Rattle.protocol.proofs.Carried.{part-there}
 use Rattle.protocol.proofs.Rows.{check-is, skip, through}
 use Rattle.protocol.proofs.RegistrarPromises.{message-promise}
 use Rattle.protocol.proofs.Slots.{first-at, sending-becomes}
+use Rattle.protocol.proofs.RegistrarPasses.{confirms-it}
 use Rattle.protocol.proofs.ConfirmationMoves.{present-test, part-present, present-part, message-at, fields-at, Ends, EndsWith, ends}
 
 module _ (t : TransactionTable) (d : RegistrarInput) (bytes : List ℕ) (m : Message) (r : Transaction) (c : Matches t d bytes m r) where
@@ -133,8 +133,7 @@ module _ (t : TransactionTable) (d : RegistrarInput) (bytes : List ℕ) (m : Mes
       (skip (off-right (confirms f) false refl) (skip row-13 (skip row-14 (skip row-15 (skip row-16 (skip row-17 (skip row-18 (skip row-19 (skip row-20 through))))))))))))))))))
 
   pub passed : registrarMessage t d bytes ≡ confirmed t r (d .nonce) f
-  unfolding registrarChecked
-  passed = message-at t d bytes m (c .reads) ∙ fields-at t d bytes m (some r) (ap (lookup (t .transactions)) (id-is t d bytes m r c) ∙ c .holds) pass passes-all
+  passed = message-at t d bytes m (c .reads) ∙ fields-at t d bytes m (some r) (ap (lookup (t .transactions)) (id-is t d bytes m r c) ∙ c .holds) pass passes-all ∙ confirms-it t d f r no-request conf
 
 -- ## The answers
 

@@ -20,7 +20,7 @@ use Rattle.protocol.specs.declared.Outgoing.{Outgoing}
 use Rattle.protocol.specs.declared.EndEntityAnswer.{EndEntityAnswer}
 use Rattle.protocol.specs.declared.Outcome.the-variants as outcome
 use Rattle.protocol.specs.declared.EnrolmentState.the-variants.{Confirming, Declining, Sure, Declined, Failed, Unsettled}
-use Rattle.protocol.specs.Message.{Fields, pkiConf, errorKind, statusOr0, fieldsOf, isEnrolmentKind, isStartingKind}
+use Rattle.protocol.specs.Message.{Fields, statusOr0, fieldsOf, isEnrolmentKind, isStartingKind}
 use Rattle.protocol.specs.Outgoing.{silent, requestOut}
 use Rattle.protocol.specs.States.{isWaiting, isConfirming, brokenState, assured}
 use Rattle.protocol.specs.Refusals.{lowestRow, Row, stop, LowestRow, pass, readRefusal, bitOf, noFault}
@@ -31,6 +31,7 @@ use Rattle.protocol.specs.Request.{IsRequest}
 use Rattle.protocol.specs.EnrolmentRules.{StartRule, TimeOutRule, becomes}
 use Rattle.der.proofs.Auto.{or-cases}
 use Rattle.protocol.proofs.Tests.{true-false, cases, one-of, eqb-eq, request-kind}
+use Rattle.protocol.proofs.EndEntityPasses.{answered-by}
 use Rattle.protocol.proofs.Rows.{one-in, numbersOf, applies-number, stops}
 use Rattle.protocol.proofs.RegistrarPromises.{refused-number, done-refused}
 
@@ -87,10 +88,8 @@ module _ (x : Enrolment) where
   unfolding endEntityChecked
   checked-promise d m (stop k) e = refused-after k m (row-number (d .good) m k e)
   checked-promise d m pass e =
-      cases Kept (eqb (m .kind) pkiConf) _ _ (λ _. moving endEntityNumbers (assured (x .state)))
-      (λ _.
-      cases Kept (eqb (m .kind) errorKind) _ _ (λ _. moving endEntityNumbers (brokenState (x .state)))
-      (λ _. cases Kept (eqb (statusOr0 (m .status)) 2) _ _ (λ _. moving endEntityNumbers Failed) (λ _. doing endEntityNumbers _ true _ refl refl (λ _. refl))))
+      answered-by x d m Kept e (λ _. moving endEntityNumbers (assured (x .state))) (λ _. moving endEntityNumbers (brokenState (x .state)))
+      (λ _. cases Kept (eqb (statusOr0 (m .status)) 2) _ _ (λ _. moving endEntityNumbers Failed) (λ _. doing endEntityNumbers _ true _ refl refl (λ _. refl)))
 
   read-number : (b : Bool) → OneOf (cond b 1 2) endEntityNumbers
   read-number true = inl refl

@@ -1,7 +1,7 @@
 -- Each call on an enrolment shows an EndEntityStep: a time out and a message.
 use Prim.Native.Nat.{ℕ}
 use mathlib.Core.List.{List}
-use mathlib.Core.Bool.{Bool, true, false, not, cond, _&&_, _||_}
+use mathlib.Core.Bool.{Bool, true, false, not, _&&_, _||_}
 use mathlib.Core.Option.{none, some}
 use mathlib.Core.Path.{_≡_, refl, sym, _∙_, ap}
 use mathlib.Core.Logic.{inl, inr}
@@ -19,7 +19,7 @@ use Rattle.protocol.specs.declared.Outgoing.{Outgoing}
 use Rattle.protocol.specs.declared.EndEntityAnswer.{EndEntityAnswer}
 use Rattle.protocol.specs.declared.EnrolmentState.the-variants.{Failed}
 use Rattle.protocol.specs.Bytes.{asNonce}
-use Rattle.protocol.specs.Message.{isResponse, fieldsOf, Fields, pkiConf, responseTo, errorKind, statusOr0}
+use Rattle.protocol.specs.Message.{fieldsOf, Fields, pkiConf, statusOr0}
 use Rattle.protocol.specs.Outgoing.{certConfOut}
 use Rattle.protocol.specs.States.{brokenState, assured, isWaiting, decision, decided, isConfirming}
 use Rattle.protocol.specs.Refusals.{lowestRow, Row, pass, LowestRow, stop, readRefusal}
@@ -28,10 +28,11 @@ use Rattle.protocol.specs.EndEntity.{enrolmentRefused, inState, enrolmen
 use Rattle.protocol.specs.Run.{Event, TheRegistrar, World, BoardEnrolment, sentBy, ToEndEntity}
 use Rattle.protocol.specs.Agreement.{Issued, IssuedReading, ByGood, Carries, SenderIssued}
 use Rattle.der.proofs.Auto.{or-false-left}
-use Rattle.protocol.proofs.Tests.{none-some, true-false, some-some, cases, not-false, passes, isId-eq, isNonce-eq, eqb-eq, or-right, and-false, is-response}
+use Rattle.protocol.proofs.Tests.{none-some, true-false, some-some, cases, not-false, passes, isId-eq, isNonce-eq, eqb-eq, and-false}
 use Rattle.protocol.proofs.EnrolmentStates.{standsFor, hasConfirmed, isAnswered, broken-stands, broken-confirmed, broken-answered, assured-stands, assured-confirmed, waiting-stands, decided-stands, decided-status, decided-open}
 use Rattle.protocol.proofs.Carried.{id-read, kind-read, recip-read}
 use Rattle.protocol.proofs.Invariant.{Inv, At, EndEntityStep, Sent, Answered}
+use Rattle.protocol.proofs.EndEntityPasses.{answered-by as passes-by}
 use Rattle.protocol.proofs.EndEntityForms.{board-one, kept-same}
 
 -- the premise, by the verdict and the reading
@@ -171,13 +172,10 @@ module _ (w : World) (v : Inv w) (k : ℕ) (x : BoardEnrolment) (here : At (w .e
     answered-with true q (o, i, c) t = answered-by o i c t
     answered-with false q z t = true-false (sym q)
 
-    -- a message that is neither pkiconf nor error is the response, and the enrolment awaits it
-    waits : acknowledges f ≡ false → reports f ≡ false → isWaiting (x .enrolment .state) ≡ true
+    -- the enrolment awaits a response
+    waits : responds f ≡ true → isWaiting (x .enrolment .state) ≡ true
     unfolding endEntityRows
-    waits p q =
-        let h8 : (acknowledges f || reports f || eqb (f .kind) (responseTo (x .enrolment .kind))) ≡ true = not-false _ (passes 8 rows e) in
-        let c : f .kind ≡ responseTo (x .enrolment .kind) = eqb-eq (f .kind) (responseTo (x .enrolment .kind)) (or-right (acknowledges f || reports f) (eqb (f .kind) (responseTo (x .enrolment .kind))) h8 (rw (p, q))) in
-        let r : responds f ≡ true = ap isResponse c ∙ is-response (x .enrolment .kind) in
+    waits r =
         let A : Bool = responds f && not (isWaiting (x .enrolment .state)) in
         let B : Bool = acknowledges f && not (isConfirming (x .enrolment .state)) in
         let C : Bool = reports f && not (isWaiting (x .enrolment .state) || isConfirming (x .enrolment .state)) in
@@ -185,12 +183,9 @@ module _ (w : World) (v : Inv w) (k : ℕ) (x : BoardEnrolment) (here : At (w .e
         (and-false (responds f) (not (isWaiting (x .enrolment .state))) (or-false-left A B (or-false-left (A || B) C (passes 20 rows e))) r)
 
     passed : ByReading (d .good) bytes (read.Clean m) (w .past) → EnrolmentStep (endEntityChecked pass (x .enrolment) d f)
-    unfolding endEntityChecked
     passed honest =
-        cases EnrolmentStep (eqb (f .kind) pkiConf) _ _ (λ p. assures (answered-with (d .good) good-it honest (eqb-eq (f .kind) pkiConf p)))
-        (λ p.
-        cases EnrolmentStep (eqb (f .kind) errorKind) _ _ (λ q. breaks)
-        (λ q. cases EnrolmentStep (eqb (statusOr0 (f .status)) 2) _ _ (λ _. fails (waits p q)) (λ _. decides (d .accept) (d .hash) (d .nonce) (asNonce (f .senderNonce)) (waits p q))))
+        passes-by (x .enrolment) d f EnrolmentStep e (λ p. assures (answered-with (d .good) good-it honest (eqb-eq (f .kind) pkiConf p))) (λ _. breaks)
+        (λ r. cases EnrolmentStep (eqb (statusOr0 (f .status)) 2) _ _ (λ _. fails (waits r)) (λ _. decides (d .accept) (d .hash) (d .nonce) (asNonce (f .senderNonce)) (waits r)))
 
   -- a refused message leaves the enrolment as it was
   refused-after : (n : ℕ) (f : Fields) → EnrolmentStep (enrolmentRefused n (afterRefusal n f (x .enrolment)))

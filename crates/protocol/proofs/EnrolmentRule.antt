@@ -1,7 +1,7 @@
 -- A message at an end entity that has what it needs is refused by no row, and does what 01 says.
 use Prim.Native.Nat.{ℕ}
 use mathlib.Core.List.{List}
-use mathlib.Core.Bool.{Bool, true, false, not, cond, _&&_, _||_}
+use mathlib.Core.Bool.{Bool, true, false, not, _&&_, _||_}
 use mathlib.Core.Option.{Option}
 use mathlib.Core.Path.{_≡_, refl, sym, _∙_, ap}
 use mathlib.Core.Logic.{_⊎_, inl, inr}
@@ -19,7 +19,7 @@ use Rattle.protocol.specs.Refusals.{otherVersion, noTransactionId, noSen
 use Rattle.protocol.specs.EndEntityRows.{otherId, otherNonce, otherAnswer, notOneResponse, otherNumber, badStatus, notAwaited, noCertificate, endEntityRows, responds, reports, oneResponse, acknowledges, hasStatus}
 use Rattle.protocol.specs.EndEntity.{endEntityMessage, endEntityChecked, confirming, responseTaken}
 use Rattle.protocol.specs.EnrolmentRules.{Heard, StatusIs, Acknowledges, becomes, Reports, Responds, EnrolmentRule}
-use Rattle.protocol.proofs.Tests.{holds-not, either, both, sameBytes-refl, true-false, off-left, off-right, same-number, or-true, other-than, response-kinds}
+use Rattle.protocol.proofs.Tests.{holds-not, either, both, sameBytes-refl, true-false, off-left, off-right, same-number, or-true, other-than, response-kinds, is-response}
 use Rattle.protocol.proofs.Carried.{part-there}
 use Rattle.protocol.proofs.Rows.{check-is, skip, through}
 use Rattle.protocol.proofs.ConfirmationMoves.{present-test, part-present}
@@ -153,6 +153,9 @@ module _ (x : Enrolment) (d : EndEntityInput) (bytes : List ℕ) (m : Message) (
     not-error : reports f ≡ false
     not-error = ap (λ (n : ℕ). eqb n 23) kind-is ∙ response-kinds (λ (n : ℕ). eqb n 23 ≡ false) refl refl refl (x .kind)
 
+    is-a-response : responds f ≡ true
+    is-a-response = ap isResponse kind-is ∙ is-response (x .kind)
+
     known-it : (n : ℕ) → (n ≡ 0) ⊎ (n ≡ 1) ⊎ (n ≡ 2) → (eqb n 0 || eqb n 1 || eqb n 2) ≡ true
     known-it n (inl e) = rw e
     known-it n (inr (inl e)) = rw e
@@ -181,7 +184,7 @@ module _ (x : Enrolment) (d : EndEntityInput) (bytes : List ℕ) (m : Message) (
         (or-off _ _ (off-right (responds f && oneResponse f) _ (holds-not _ (ap (λ (n : ℕ). eqb n 0 || eqb n 1 || eqb n 2) (status-is s (k .status)) ∙ known-it s (k .known)))) (off-left (reports f) _ not-error))
         (or-off _ _ (or-off _ _ (off-right (responds f) _ (holds-not (isWaiting (x .state)) (rw (k .state)))) (off-left (acknowledges f) _ not-pkiconf)) (off-left (reports f) _ not-error))
         (certificate-off (ℕ-discrete s 2))
-        ∙ rw (not-pkiconf, not-error)
+        ∙ rw (not-pkiconf, not-error, is-a-response)
 
   refused-it : Responds x m 2 → endEntityMessage x d bytes ≡ becomes x Failed
   refused-it k = response-taken 2 k ∙ rw (status-is 2 (k .status))

@@ -1,7 +1,7 @@
 -- What a message at an end entity shows that no row refuses.
 use Prim.Native.Nat.{ℕ}
 use mathlib.Core.List.{List}
-use mathlib.Core.Bool.{Bool, true, false, not, cond, _&&_, _||_}
+use mathlib.Core.Bool.{Bool, true, false, not, _&&_, _||_}
 use mathlib.Core.Path.{_≡_, refl, sym, _∙_, ap}
 use mathlib.Core.Logic.{_⊎_, inl, inr}
 use lib.ListN.{length}
@@ -16,7 +16,7 @@ use Rattle.protocol.specs.declared.EndEntityAnswer.{EndEntityAnswer}
 use Rattle.protocol.specs.declared.EnrolmentState.the-variants.{Asked, Confirming, Declining, Sure, Declined, Failed, Unsettled}
 use Rattle.protocol.specs.declared.Outcome.the-variants as outcome
 use Rattle.grammar.specs.Span.{partOf}
-use Rattle.protocol.specs.Message.{isResponse, responseTo, Fields, fieldsOf, isPresent, statusOr0, optionalStatus}
+use Rattle.protocol.specs.Message.{Fields, fieldsOf, isPresent, statusOr0, optionalStatus}
 use Rattle.protocol.specs.States.{isWaiting, isConfirming}
 use Rattle.protocol.specs.Refusals.{Row, LowestRow, lowestRow, pass, stop}
 use Rattle.protocol.specs.EndEntityRows.{endEntityRows, responds, acknowledges, reports, oneResponse, hasStatus}
@@ -24,7 +24,8 @@ use Rattle.protocol.specs.EndEntity.{endEntityMessage, endEntityChecked,
 use Rattle.protocol.specs.Confirmation.{Sixteen}
 use Rattle.protocol.specs.EnrolmentRules.{Heard, Acknowledges, StatusIs, Reports, Responds}
 use Rattle.der.proofs.Auto.{and-left, and-right, or-false-right, or-false-left, or-cases}
-use Rattle.protocol.proofs.Tests.{true-false, not-false, passes, isId-eq, isNonce-eq, one-of, eqb-eq, and-false, or-right, both, other-than, is-response}
+use Rattle.protocol.proofs.EndEntityPasses.{response-it, responds-it}
+use Rattle.protocol.proofs.Tests.{true-false, not-false, passes, isId-eq, isNonce-eq, one-of, eqb-eq, and-false, both, other-than}
 use Rattle.protocol.proofs.RegistrarPromises.{done-refused}
 use Rattle.protocol.proofs.ConfirmationMoves.{sixteen, part-of, present-part}
 
@@ -142,13 +143,11 @@ module _ (x : Enrolment) (d : EndEntityInput) (bytes : List ℕ) (m : Message) w
     responded : acknowledges f ≡ false → reports f ≡ false → Responds x m (statusOr0 (f .status))
     unfolding fieldsOf endEntityRows
     responded p q =
-        let h8 : (acknowledges f || reports f || eqb (f .kind) (responseTo (x .kind))) ≡ true = not-false _ (passes 8 rows e) in
-        let c : f .kind ≡ responseTo (x .kind) = eqb-eq (f .kind) (responseTo (x .kind)) (or-right (acknowledges f || reports f) (eqb (f .kind) (responseTo (x .kind))) h8 (rw (p, q))) in
-        let r : responds f ≡ true = ap isResponse c ∙ is-response (x .kind) in
+        let r : responds f ≡ true = responds-it x d f e p q in
         let one : oneResponse f ≡ true = not-false (oneResponse f) (and-false (responds f) (not (oneResponse f)) (passes 15 rows e) r) in
         let ro : (responds f && oneResponse f) ≡ true = both (responds f) (oneResponse f) r one in
         record {
-          kind = c;
+          kind = response-it x d f e p q;
           entries = eqb-eq (f .entries) 1 one;
           request = eqb-eq (f .request) 0 (not-false _ (and-false (responds f && oneResponse f) (not (eqb (f .request) 0)) (passes 16 rows e) ro));
           status = status-by (m .body .entry .«has_status») _ refl refl;

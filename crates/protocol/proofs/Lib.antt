@@ -11,6 +11,7 @@ pub mod RegistrarForms
 pub mod RegistrarSteps
 pub mod RegistrarPasses
 pub mod RegistrarMessage
+pub mod EndEntityPasses
 pub mod EndEntityForms
 pub mod EndEntitySteps
 pub mod Theorem

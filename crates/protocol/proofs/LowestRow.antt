@@ -2,7 +2,7 @@
 use Prim.Native.Nat.{ℕ}
 use mathlib.Core.List.{List}
 use mathlib.Core.Bool.{true}
-use mathlib.Core.Option.{Option, none, some}
+use mathlib.Core.Option.{Option, none}
 use mathlib.Core.Path.{_≡_, refl, sym, _∙_, ap, subst}
 use lib.Dec.{eqb}
 use Rattle.message.specs.Read.{readingOf}
@@ -19,7 +19,7 @@ use Rattle.protocol.specs.declared.RegistrarAnswer.{RegistrarAnswer}
 use Rattle.protocol.specs.declared.EndEntityAnswer.{EndEntityAnswer}
 use Rattle.protocol.specs.declared.Outcome.the-variants as outcome
 use Rattle.protocol.specs.Bytes.{asId}
-use Rattle.protocol.specs.Message.{Fields, statusOr0, pkiConf, fieldsOf, errorKind}
+use Rattle.protocol.specs.Message.{Fields, statusOr0, fieldsOf}
 use Rattle.protocol.specs.Table.{lookup}
 use Rattle.protocol.specs.States.{isGranted}
 use Rattle.protocol.specs.Refusals.{Row, stop, lowestRow, pass, LowestRow}
@@ -31,6 +31,8 @@ use Rattle.protocol.specs.Promises.{LowestGiven}
 use Rattle.protocol.proofs.Tests.{cases}
 use Rattle.protocol.proofs.Rows.{stops, ascending, least, stopped}
 use Rattle.protocol.proofs.RegistrarPromises.{refused-number, done-refused, again-refused}
+use Rattle.protocol.proofs.RegistrarPasses.{taken-by}
+use Rattle.protocol.proofs.EndEntityPasses.{answered-by}
 use Rattle.protocol.proofs.ConfirmationMoves.{message-at}
 
 -- an outcome that is the check's
@@ -58,18 +60,20 @@ module _ (t : TransactionTable) (d : RegistrarInput) (m : Fields) where
   abbrev g : Option Transaction
   g = lookup (t .transactions) (asId (m .id))
 
-  passed-registrar : (h : Option Transaction) (n : ℕ) (b : FailureInfo) → registrarChecked pass h t d m .outcome ≡ outcome.Refused n b → ⊥
-  unfolding registrarChecked
-  passed-registrar none n b e = done-refused n b e
-  passed-registrar (some r) n b e =
-      cases (λ (a : RegistrarAnswer). a .outcome ≡ outcome.Refused n b → ⊥) (isGranted (r .state)) _ _ (λ _ z. done-refused n b z) (λ _ z. again-refused n b z) e
+  abbrev RegistrarRefuses : ℕ → FailureInfo → RegistrarAnswer → Type 0
+  RegistrarRefuses n b a = a .outcome ≡ outcome.Refused n b
+
+  passed-registrar : (h : Option Transaction) → lowestRow (registrarRows (t .transactions) h (d .verdict) m) ≡ pass → (n : ℕ) (b : FailureInfo) → RegistrarRefuses n b (registrarChecked pass h t d m) → ⊥
+  passed-registrar h e n b =
+      taken-by t d m (λ (a : RegistrarAnswer). RegistrarRefuses n b a → ⊥) h e (λ _ _ _ z. done-refused n b z)
+      (λ r _ _ _. cases (λ (a : RegistrarAnswer). RegistrarRefuses n b a → ⊥) (isGranted (r .state)) _ _ (λ _ z. done-refused n b z) (λ _ z. again-refused n b z))
 
   follows-registrar : Follows (registrarRows (t .transactions) g (d .verdict) m) (registrarFields t d m .outcome)
   unfolding registrarFields registrarChecked
   follows-registrar =
       record {
         stopsIt = λ k e. (_, ap (λ (c : LowestRow). registrarChecked c g t d m .outcome) e);
-        passesIt = λ e n b q. passed-registrar g n b (sym (ap (λ (c : LowestRow). registrarChecked c g t d m .outcome) e) ∙ q);
+        passesIt = λ e n b q. passed-registrar g e n b (sym (ap (λ (c : LowestRow). registrarChecked c g t d m .outcome) e) ∙ q);
       }
 
   lowest-fields : LowestGiven (registrarRows (t .transactions) g (d .verdict) m) (registrarFields t d m .outcome)
@@ -88,19 +92,17 @@ module _ (x : Enrolment) (d : EndEntityInput) (m : Fields) where
   abbrev NotRefused : ℕ → FailureInfo → EndEntityAnswer → Type 0
   NotRefused n b a = a .outcome ≡ outcome.Refused n b → ⊥
 
-  passed-end : (n : ℕ) (b : FailureInfo) → NotRefused n b (endEntityChecked pass x d m)
-  unfolding endEntityChecked
-  passed-end n b =
-      cases (NotRefused n b) (eqb (m .kind) pkiConf) _ _ (λ _ z. done-refused n b z)
-      (λ _. cases (NotRefused n b) (eqb (m .kind) errorKind) _ _ (λ _ z. done-refused n b z)
-      (λ _. cases (NotRefused n b) (eqb (statusOr0 (m .status)) 2) _ _ (λ _ z. done-refused n b z) (λ _ z. done-refused n b z)))
+  passed-end : lowestRow (endEntityRows x (d .good) m) ≡ pass → (n : ℕ) (b : FailureInfo) → NotRefused n b (endEntityChecked pass x d m)
+  passed-end e n b =
+      answered-by x d m (NotRefused n b) e (λ _ z. done-refused n b z) (λ _ z. done-refused n b z)
+      (λ _. cases (NotRefused n b) (eqb (statusOr0 (m .status)) 2) _ _ (λ _ z. done-refused n b z) (λ _ z. done-refused n b z))
 
   follows-end : Follows (endEntityRows x (d .good) m) (endEntityChecked (lowestRow (endEntityRows x (d .good) m)) x d m .outcome)
   unfolding endEntityChecked
   follows-end =
       record {
         stopsIt = λ k e. (_, ap (λ (c : LowestRow). endEntityChecked c x d m .outcome) e);
-        passesIt = λ e n b q. passed-end n b (sym (ap (λ (c : LowestRow). endEntityChecked c x d m .outcome) e) ∙ q);
+        passesIt = λ e n b q. passed-end e n b (sym (ap (λ (c : LowestRow). endEntityChecked c x d m .outcome) e) ∙ q);
       }
 
   lowest-end : LowestGiven (endEntityRows x (d .good) m) (endEntityChecked (lowestRow (endEntityRows x (d .good) m)) x d m .outcome)

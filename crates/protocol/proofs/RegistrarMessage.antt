@@ -26,7 +26,7 @@ use Rattle.protocol.specs.Outgoing.{pkiConfOut, errorOut, silent}
 use Rattle.protocol.specs.Table.{lookup, replace, isFree, hasFreeSlot, put}
 use Rattle.protocol.specs.States.{isGranted, settledBy, settledState}
 use Rattle.protocol.specs.Refusals.{lowestRow, pass, LowestRow, stop}
-use Rattle.protocol.specs.RegistrarRows.{registrarRows}
+use Rattle.protocol.specs.RegistrarRows.{confirms, registrarRows}
 use Rattle.protocol.specs.Registrar.{settled, confirmed, opened, openedTransaction, registrarChecked, registrarRead, registrarFields, registrarMessage}
 use Rattle.protocol.specs.Run.{Event, OneBoard, World, sentBy, ToRegistrar}
 use Rattle.protocol.specs.Agreement.{Issued, IssuedReading, ByVerdict, Carries, SenderIssued}
@@ -37,7 +37,7 @@ use Rattle.protocol.proofs.Carried.{kind-read, id-read, sender-read, re
 use Rattle.protocol.proofs.Invariant.{Inv, Acknowledged, RegistrarStep}
 use Rattle.protocol.proofs.RegistrarForms.{registrar-same, registrar-one, Quiet, registrar-idle, quiet-none}
 use Rattle.protocol.proofs.RegistrarSteps.{own, recs, replaces, StepOf, open-still}
-use Rattle.protocol.proofs.RegistrarPasses.{kind-is, names-it, one-it, recip-it, hash-it, known-it, takes-it, room}
+use Rattle.protocol.proofs.RegistrarPasses.{kind-is, names-it, one-it, recip-it, hash-it, known-it, takes-it, room, taken-by}
 
 -- what a certConf that is not refused shows: r is the record with its id, s its status
 pub record Confirms (past : List Event) (r : Transaction) (m : Fields) (o : Outgoing) : Type 0 where
@@ -66,26 +66,26 @@ module _ (w : World) (v : Inv w) (bytes : List ℕ) (m : Message) where
   abbrev f : Fields
   f = fieldsOf bytes m
 
-  confirms-by : (r : Transaction) (a : Board) → lowestRow (registrarRows (recs w v) (some r) (Good a) f) ≡ pass → (o : Outgoing) → Issued (OneBoard a) o (w .past) → Carries bytes m o → Confirms (w .past) r f o
-  confirms-by r a e o q c =
-      let k : o .kind ≡ certConf = sym (kind-read bytes m o c) ∙ kind-is (recs w v) r (Good a) f e in
-      let b : a ≡ r .board = board-eq a (r .board) (eqb-eq (a .0) (r .board .0) (names-it (recs w v) r (Good a) f e)) in
-      let one : f .entries ≡ 1 = eqb-eq (f .entries) 1 (one-it (recs w v) r (Good a) f e) in
+  confirms-by : (r : Transaction) (a : Board) → lowestRow (registrarRows (recs w v) (some r) (Good a) f) ≡ pass → confirms f ≡ true → (o : Outgoing) → Issued (OneBoard a) o (w .past) → Carries bytes m o → Confirms (w .past) r f o
+  confirms-by r a e conf o q c =
+      let k : o .kind ≡ certConf = sym (kind-read bytes m o c) ∙ kind-is (recs w v) r (Good a) f e conf in
+      let b : a ≡ r .board = board-eq a (r .board) (eqb-eq (a .0) (r .board .0) (names-it (recs w v) r (Good a) f e conf)) in
+      let one : f .entries ≡ 1 = eqb-eq (f .entries) 1 (one-it (recs w v) r (Good a) f e conf) in
       record {
         issued = subst (λ (y : Board). Issued (OneBoard y) o (w .past)) b q;
         kind = k;
         id = sym (ap asId (id-read bytes m o c));
         sender = sym (ap asNonce (sender-read bytes m o c));
-        recip = recip-read bytes m o c (r .sent) (v .stands a o q k .answers) (recip-it (recs w v) r (Good a) f e);
-        hash = hash-read bytes m o c (kind-is (recs w v) r (Good a) f e) one ∙ hash-it (recs w v) r (Good a) f e;
+        recip = recip-read bytes m o c (r .sent) (v .stands a o q k .answers) (recip-it (recs w v) r (Good a) f e conf);
+        hash = hash-read bytes m o c (kind-is (recs w v) r (Good a) f e conf) one ∙ hash-it (recs w v) r (Good a) f e conf;
         status = status-read bytes m o c (v .stands a o q k .rated) one;
-        known = known-it (recs w v) r (Good a) f e;
-        takes = takes-it (recs w v) r (Good a) f e;
+        known = known-it (recs w v) r (Good a) f e conf;
+        takes = takes-it (recs w v) r (Good a) f e conf;
       }
 
-  confirms-with : (r : Transaction) (vd : Verdict) → lowestRow (registrarRows (recs w v) (some r) vd f) ≡ pass → ByReading vd bytes (read.Clean m) (w .past) → (o : Outgoing) × Confirms (w .past) r f o
-  confirms-with r Bad e q = true-false (sym (names-it (recs w v) r Bad f e))
-  confirms-with r (Good a) e (o, q, c) = (o, confirms-by r a e o q c)
+  confirms-with : (r : Transaction) (vd : Verdict) → lowestRow (registrarRows (recs w v) (some r) vd f) ≡ pass → confirms f ≡ true → ByReading vd bytes (read.Clean m) (w .past) → (o : Outgoing) × Confirms (w .past) r f o
+  confirms-with r Bad e conf q = true-false (sym (names-it (recs w v) r Bad f e conf))
+  confirms-with r (Good a) e conf (o, q, c) = (o, confirms-by r a e conf o q c)
 
 module _ (w : World) (v : Inv w) (m : Fields) (n : Nonce) where
   abbrev i : TransactionId
@@ -202,10 +202,12 @@ module _ (w : World) (v : Inv w) (bytes : List ℕ) (m : Message) (d : Registrar
   checked : ByReading (d .verdict) bytes (read.Clean m) (w .past) → (g : Option Transaction) → lookup (recs w v) (asId (fields .id)) ≡ g → (k : LowestRow) → lowestRow (registrarRows (recs w v) g (d .verdict) fields) ≡ k → StepOf w v (open-still w v) (registrarChecked k g (w .table) d fields)
   unfolding registrarChecked
   checked q g h (stop k) e = registrar-idle w v (sentBy (leb 6 k) _) (error-quiet (leb 6 k) _ _ _ _)
-  checked q none h pass e = opens w v fields (d .nonce) (d .verdict) h (room (recs w v) (d .verdict) fields e)
-  checked q (some r) h pass e =
-      let c : (o : Outgoing) × Confirms (w .past) r fields o = confirms-with w v bytes m r (d .verdict) e q in
-      confirmed-step w v fields (d .nonce) r (c .0) (c .1) h
+  checked q g h pass e =
+      taken-by (w .table) d fields (StepOf w v (open-still w v)) g e
+      (λ o n p. opens w v fields (d .nonce) (d .verdict) (h ∙ n) (room (recs w v) none (d .verdict) fields p o))
+      (λ r k n p.
+      let c : (o : Outgoing) × Confirms (w .past) r fields o = confirms-with w v bytes m r (d .verdict) p k q in
+      confirmed-step w v fields (d .nonce) r (c .0) (c .1) (h ∙ n))
 
 read-step : (w : World) (v : Inv w) (bytes : List ℕ) (d : RegistrarInput) (r : Reading) → ByReading (d .verdict) bytes r (w .past) → StepOf w v (open-still w v) (registrarRead r (w .table) d bytes)
 unfolding registrarRead registrarFields

@@ -3,19 +3,23 @@ use Prim.Native.Nat.{ℕ}
 use mathlib.Core.List.{List}
 use mathlib.Core.Bool.{true, false, not, _&&_, _||_}
 use mathlib.Core.Option.{Option, none, some}
-use mathlib.Core.Path.{_≡_, sym, _∙_, ap}
+use mathlib.Core.Path.{_≡_, refl, sym, _∙_, ap}
 use mathlib.Core.Logic.{_⊎_, inl, inr}
 use lib.Dec.{eqb}
 use Rattle.protocol.specs.declared.Verdict.{Verdict}
+use Rattle.protocol.specs.declared.RegistrarInput.{RegistrarInput}
 use Rattle.protocol.specs.declared.Transaction.{Transaction}
+use Rattle.protocol.specs.declared.TransactionTable.{TransactionTable}
+use Rattle.protocol.specs.declared.RegistrarAnswer.{RegistrarAnswer}
 use Rattle.protocol.specs.Bytes.{isNonce, sameHash}
 use Rattle.protocol.specs.Message.{Fields, statusOr0, certConf}
 use Rattle.protocol.specs.Table.{hasFreeSlot}
 use Rattle.protocol.specs.States.{hasSent, hasHash, isGranted, settledBy}
 use Rattle.protocol.specs.Refusals.{pass, lowestRow, notSixteen}
 use Rattle.protocol.specs.RegistrarRows.{registrarRows, isGood, confirms, opens, names, hasEntries, oneEntry, repeats}
+use Rattle.protocol.specs.Registrar.{opened, confirmed, registrarChecked}
 use Rattle.der.proofs.Auto.{and-right, and-left}
-use Rattle.protocol.proofs.Tests.{passes, one-of, not-false, or-right, and-true-false, true-false, eqb-eq, and-false, isNonce-eq, or-true, both, hash-eq, or-left}
+use Rattle.protocol.proofs.Tests.{passes, one-of, not-false, or-right, and-true-false, true-false, eqb-eq, and-false, isNonce-eq, or-true, both, hash-eq, cases}
 
 -- 7: the verdict is good
 pub passes-7 : (rs : List Transaction) (g : Option Transaction) (v : Verdict) (m : Fields) → lowestRow (registrarRows rs g v m) ≡ pass → not (isGood v) ≡ false
@@ -24,7 +28,7 @@ passes-7 rs g v m e = passes 7 (registrarRows rs g v m) e
 
 -- ## A confirmation: r is the transaction with its id
 
-module _ (rs : List Transaction) (r : Transaction) (v : Verdict) (m : Fields) (e : lowestRow (registrarRows rs (some r) v m) ≡ pass) where
+module _ (rs : List Transaction) (r : Transaction) (v : Verdict) (m : Fields) (e : lowestRow (registrarRows rs (some r) v m) ≡ pass) (conf : confirms m ≡ true) where
   abbrev s : ℕ
   s = statusOr0 (m .status)
 
@@ -43,13 +47,6 @@ module _ (rs : List Transaction) (r : Transaction) (v : Verdict) (m : Fields) (e
   pub protected-it : m .protected ≡ true
   unfolding registrarRows
   protected-it = not-false (m .protected) (passes 6 (registrarRows rs (some r) v m) e)
-
-  pub conf : confirms m ≡ true
-  unfolding registrarRows
-  conf =
-      let h10 : (opens m && true) ≡ false = passes 10 (registrarRows rs (some r) v m) e in
-      let h8 : not (opens m || confirms m) ≡ false = passes 8 (registrarRows rs (some r) v m) e in
-      or-right (opens m) (confirms m) (not-false _ h8) (and-true-false (opens m) h10)
 
   pub kind-is : m .kind ≡ certConf
   kind-is = eqb-eq (m .kind) certConf conf
@@ -115,14 +112,49 @@ module _ (rs : List Transaction) (r : Transaction) (v : Verdict) (m : Fields) (e
 
 -- ## A request
 
-module _ (rs : List Transaction) (v : Verdict) (m : Fields) (e : lowestRow (registrarRows rs none v m) ≡ pass) where
-  pub opens-it : opens m ≡ true
+module _ (rs : List Transaction) (f : Option Transaction) (v : Verdict) (m : Fields) (e : lowestRow (registrarRows rs f v m) ≡ pass) where
+  pub room : opens m ≡ true → hasFreeSlot rs ≡ true
   unfolding registrarRows
-  opens-it =
-      let h12 : (confirms m && true) ≡ false = passes 12 (registrarRows rs none v m) e in
-      let h8 : not (opens m || confirms m) ≡ false = passes 8 (registrarRows rs none v m) e in
-      or-left (opens m) (confirms m) (not-false _ h8) (and-true-false (confirms m) h12)
+  room o = not-false (hasFreeSlot rs) (and-false (opens m) (not (hasFreeSlot rs)) (passes 11 (registrarRows rs f v m) e) o)
 
-  pub room : hasFreeSlot rs ≡ true
+  -- 8: it is one of the two
+  pub kind-taken : (opens m || confirms m) ≡ true
   unfolding registrarRows
-  room = not-false (hasFreeSlot rs) (and-false (opens m) (not (hasFreeSlot rs)) (passes 11 (registrarRows rs none v m) e) opens-it)
+  kind-taken = not-false _ (passes 8 (registrarRows rs f v m) e)
+
+  neither : {A : Type 0} → opens m ≡ false → confirms m ≡ false → A
+  neither o c = let z : (opens m || confirms m) ≡ false = rw (o, c) in true-false (sym kind-taken ∙ z)
+
+-- 10 and 12: what opens is not known, what confirms is
+opens-known : {A : Type 0} (rs : List Transaction) (r : Transaction) (v : Verdict) (m : Fields) → lowestRow (registrarRows rs (some r) v m) ≡ pass → opens m ≡ true → A
+unfolding registrarRows
+opens-known rs r v m e o = true-false (sym o ∙ and-true-false (opens m) (passes 10 (registrarRows rs (some r) v m) e))
+
+confirms-unknown : {A : Type 0} (rs : List Transaction) (v : Verdict) (m : Fields) → lowestRow (registrarRows rs none v m) ≡ pass → confirms m ≡ true → A
+unfolding registrarRows
+confirms-unknown rs v m e c = true-false (sym c ∙ and-true-false (confirms m) (passes 12 (registrarRows rs none v m) e))
+
+-- ## By its kind
+
+module _ (t : TransactionTable) (d : RegistrarInput) (m : Fields) where
+  pub opens-it : (f : Option Transaction) → opens m ≡ true → registrarChecked pass f t d m ≡ opened t (d .verdict) m
+  unfolding registrarChecked
+  opens-it f o = rw o
+
+  pub confirms-it : (r : Transaction) → opens m ≡ false → confirms m ≡ true → registrarChecked pass (some r) t d m ≡ confirmed t r (d .nonce) m
+  unfolding registrarChecked
+  confirms-it r o c = rw (o, c)
+
+  -- what holds of a request that opens, and of a confirmation of the transaction with its id, holds of what is not refused
+  pub taken-by :
+      (P : RegistrarAnswer → Type 0) (f : Option Transaction) → lowestRow (registrarRows (t .transactions) f (d .verdict) m) ≡ pass →
+      (opens m ≡ true → f ≡ none → lowestRow (registrarRows (t .transactions) none (d .verdict) m) ≡ pass → P (opened t (d .verdict) m)) →
+      ((r : Transaction) → confirms m ≡ true → f ≡ some r → lowestRow (registrarRows (t .transactions) (some r) (d .verdict) m) ≡ pass → P (confirmed t r (d .nonce) m)) →
+      P (registrarChecked pass f t d m)
+  unfolding registrarChecked
+  taken-by P none e opening confirmation =
+      cases P (opens m) _ _ (λ o. opening o refl e)
+      (λ o. cases P (confirms m) _ _ (λ c. confirms-unknown (t .transactions) (d .verdict) m e c) (λ c. neither (t .transactions) none (d .verdict) m e o c))
+  taken-by P (some r) e opening confirmation =
+      cases P (opens m) _ _ (λ o. opens-known (t .transactions) r (d .verdict) m e o)
+      (λ o. cases P (confirms m) _ _ (λ c. confirmation r c refl e) (λ c. neither (t .transactions) (some r) (d .verdict) m e o c))

@@ -31,6 +31,7 @@ use Rattle.protocol.specs.RegistrarRows.{registrarRows}
 use Rattle.protocol.specs.Registrar.{hostStep, refusedQuietly, registrarIssue, responded, registrarRefuse, registrarLapse, settled, registrarClose, openedTransaction, registrarChecked, registrarRead, registrarFields, registrarMessage}
 use Rattle.protocol.specs.Promises.{AtMostOne, OneOf, RegistrarPromise, UnsetZero, hostNumbers, registrarNumbers}
 use Rattle.protocol.proofs.Tests.{true-false, cases}
+use Rattle.protocol.proofs.RegistrarPasses.{taken-by}
 use Rattle.protocol.proofs.RegistrarStates.{is-asked}
 use Rattle.protocol.proofs.Lookup.{isFor-id, found}
 use Rattle.protocol.proofs.Changes.{Change, unique-one, one-unique, replacing, putting}
@@ -172,13 +173,14 @@ module _ (t : TransactionTable) (d : RegistrarInput) where
   checked-promise : (m : Fields) (f : Option Transaction) → lookup (t .transactions) (asId (m .id)) ≡ f → (c : LowestRow) → lowestRow (registrarRows (t .transactions) f (d .verdict) m) ≡ c → Kept (registrarChecked c f t d m)
   unfolding registrarChecked
   checked-promise m f h (stop k) e = refusing registrarNumbers t k _ _ _ _ (row-number f m k e)
-  checked-promise m none h pass e = doing registrarNumbers t _ _ _ _ (putting t (openedTransaction (d .verdict) m) h (opened-unset m))
-  checked-promise m (some r) h pass e =
+  checked-promise m f h pass e =
+      taken-by t d m Kept f e (λ _ n _. doing registrarNumbers t _ _ _ _ (putting t (openedTransaction (d .verdict) m) (h ∙ n) (opened-unset m)))
+      (λ r _ n _.
       cases Kept (isGranted (r .state)) _ _
       (λ _.
       doing registrarNumbers t _ _ _ _
-      (replacing t (asId (m .id)) r (settled r (settledState (statusOr0 (m .status))) (asNonce (m .senderNonce))) h (λ _. own-id t (asId (m .id)) r h) (λ _. settled-full (statusOr0 (m .status)) r (asNonce (m .senderNonce)) (eqb (statusOr0 (m .status)) 0))))
-      (λ _. repeating registrarNumbers t _ _)
+      (replacing t (asId (m .id)) r (settled r (settledState (statusOr0 (m .status))) (asNonce (m .senderNonce))) (h ∙ n) (λ _. own-id t (asId (m .id)) r (h ∙ n)) (λ _. settled-full (statusOr0 (m .status)) r (asNonce (m .senderNonce)) (eqb (statusOr0 (m .status)) 0))))
+      (λ _. repeating registrarNumbers t _ _))
 
   read-promise : (bytes : List ℕ) (r : Reading) → Kept (registrarRead r t d bytes)
   unfolding registrarRead registrarFields

@@ -1,12 +1,11 @@
 -- Each of the host's steps at the registrar shows a RegistrarStep: issue, refuse, lapse and close.
 use Prim.Native.Nat.{ℕ}
 use mathlib.Core.List.{List}
-use mathlib.Core.Bool.{Bool, true, false, cond}
+use mathlib.Core.Bool.{Bool, true, false}
 use mathlib.Core.Option.{Option, none, some}
 use mathlib.Core.Path.{_≡_, refl, sym, _∙_, ap}
 use mathlib.Core.Logic.{_⊎_, inl, inr}
 use native.Mathlib.Omega.{arith}
-use lib.Dec.{eqb}
 use Rattle.protocol.specs.declared.TransactionId.{TransactionId}
 use Rattle.protocol.specs.declared.Nonce.{Nonce}
 use Rattle.protocol.specs.declared.Hash.{Hash}

@@ -33,7 +33,7 @@ use Rattle.protocol.specs.Request.{IsRequest, Opening, Opened, RequestRu
 use Rattle.der.proofs.Auto.{and-left, and-right}
 use Rattle.protocol.proofs.Tests.{true-false, eqb-eq, not-false, passes, request-kind, and-false, one-of, both, off-left, off-right, holds-not, same-number, either}
 use Rattle.protocol.proofs.Carried.{part-there, part-absent}
-use Rattle.protocol.proofs.RegistrarPasses.{passes-7, room, conf}
+use Rattle.protocol.proofs.RegistrarPasses.{passes-7, room, opens-it, taken-by}
 use Rattle.protocol.proofs.Rows.{check-is, skip, through}
 use Rattle.protocol.proofs.RegistrarPromises.{done-refused}
 use Rattle.protocol.proofs.ConfirmationMoves.{sixteen, present-part, message-at, fields-at, present-test, part-present}
@@ -87,7 +87,7 @@ module _ (t : TransactionTable) (d : RegistrarInput) (bytes : List ℕ) (m : Mes
         let i : Sixteen bytes (m .header .«transaction_id») (partOf bytes (m .header .«transaction_id»)) = sixteen bytes (m .header .«transaction_id») (passes 4 rows e) in
         let n : Sixteen bytes (m .header .«sender_nonce») (partOf bytes (m .header .«sender_nonce»)) = sixteen bytes (m .header .«sender_nonce») (passes 5 rows e) in
         let o : isOpeningKind (m .body .kind) ≡ true = request-kind (m .body .kind) kind in
-        let g : (q : ℕ) × (x : Transaction) × (getElem? rs q ≡ some x) × (x .state ≡ at-registrar.Free) = room-free rs (room rs (d .verdict) f e) in
+        let g : (q : ℕ) × (x : Transaction) × (getElem? rs q ≡ some x) × (x .state ≡ at-registrar.Free) = room-free rs (room rs none (d .verdict) f e o) in
         let one : (m .body .kind ≡ 4 → ⊥) → oneEntry f ≡ true = λ z. not-false (oneEntry f) (and-false (hasEntries f) (not (oneEntry f)) (passes 15 rows e) (counted (m .body .kind) kind z)) in
         record {
           reads = reads;
@@ -115,9 +115,10 @@ module _ (t : TransactionTable) (d : RegistrarInput) (bytes : List ℕ) (m : Mes
       (c : LowestRow) → lowestRow (registrarRows rs g (d .verdict) f) ≡ c → (registrarChecked c g t d f) .outcome ≡ outcome.Done →
       (b : Board) × Opening t d bytes m b
   unfolding registrarChecked fieldsOf
-  opens-by reads kind g h (stop k) e q = done-refused k _ (sym q)
-  opens-by reads kind none h pass e q = (_, opening reads kind h e)
-  opens-by reads kind (some r) h pass e q = true-false (sym (conf rs r (d .verdict) f e) ∙ request-other (m .body .kind) kind)
+  opens-by reads kind g h (stop k) e = λ q. done-refused k _ (sym q)
+  opens-by reads kind g h pass e =
+      taken-by t d f (λ (a : RegistrarAnswer). a .outcome ≡ outcome.Done → (b : Board) × Opening t d bytes m b) g e (λ o n p _. (_, opening reads kind (h ∙ n) p))
+      (λ r c n p _. true-false (sym c ∙ request-other (m .body .kind) kind))
 
   opens-only : readingOf bytes ≡ read.Clean m → IsRequest (m .body .kind) → registrarMessage t d bytes .outcome ≡ outcome.Done → (b : Board) × Opening t d bytes m b
   opens-only reads kind q =
@@ -197,8 +198,7 @@ module _ (t : TransactionTable) (d : RegistrarInput) (bytes : List ℕ) (m : Mes
     new-is = rw (c .good) (λ i. record { id = id-is i; board = b; kind = m .body .kind; taken = nonce-is i; sent = noNonce; hash = noHash; state = at-registrar.Asked })
 
     answer-is : registrarMessage t d bytes ≡ doneQuietly (freeSlot rs) (put rs new)
-    unfolding registrarChecked
-    answer-is = message-at t d bytes m (c .reads) ∙ fields-at t d bytes m none (ap (lookup rs) id-is ∙ c .unknown) pass passes-all ∙ ap (λ (x : Transaction). doneQuietly (freeSlot rs) (put rs x)) new-is
+    answer-is = message-at t d bytes m (c .reads) ∙ fields-at t d bytes m none (ap (lookup rs) id-is ∙ c .unknown) pass passes-all ∙ opens-it t d f none request-it ∙ ap (λ (x : Transaction). doneQuietly (freeSlot rs) (put rs x)) new-is
 
     opened-it : Opened t (m .body .kind) b (c .id) (c .nonce) (doneQuietly (freeSlot rs) (put rs new))
     opened-it =

@@ -2,7 +2,7 @@
 use Prim.Native.Nat.{ℕ, _<_, _≤_}
 use mathlib.Core.List.{List}
 use mathlib.Core.Bool.{Bool, true, false, not, cond, _&&_}
-use mathlib.Core.Option.{Option, none, some}
+use mathlib.Core.Option.{Option, none, some, Option·getD}
 use mathlib.Core.Path.{_≡_, refl, sym, _∙_, ap, subst}
 use native.Mathlib.Omega.{arith}
 use lib.Dec.{leb, leb→le, le→leb}
@@ -26,11 +26,11 @@ use Rattle.protocol.specs.declared.Outcome.the-variants as outcome
 use Rattle.protocol.specs.Bytes.{asId, asNonce}
 use Rattle.protocol.specs.Message.{Fields, fieldsOf}
 use Rattle.protocol.specs.Outgoing.{errorOut, silent}
-use Rattle.protocol.specs.Table.{lookup}
+use Rattle.protocol.specs.Table.{lookup, freeTransaction}
 use Rattle.protocol.specs.States.{isGranted, mayIssue, mayRefuse, mayLapse, mayClose, hasSent}
 use Rattle.protocol.specs.Refusals.{bitOf, lowestRow, LowestRow, stop, pass, readRefusal, noFault}
-use Rattle.protocol.specs.RegistrarRows.{registrarRows, confirms, oneEntry}
-use Rattle.protocol.specs.Registrar.{hostStep, registrarIssue, registrarRefuse, registrarLapse, registrarClose, registrarChecked, registrarMessage, registrarFields, registrarRead}
+use Rattle.protocol.specs.RegistrarRows.{registrarRows, opens, confirms, oneEntry}
+use Rattle.protocol.specs.Registrar.{hostStep, registrarIssue, registrarRefuse, registrarLapse, registrarClose, refusedMessage, registrarChecked, registrarMessage, registrarFields, registrarRead}
 use Rattle.protocol.specs.EndEntity.{endEntityMessage, endEntityRead}
 use Rattle.protocol.specs.HostRules.{hostRefusal, HostRule, HostRules}
 use Rattle.protocol.specs.MessageRules.{errorMessage, ErrorRule, UnreadRule, Corners, Tables}
@@ -92,15 +92,22 @@ module _ (t : TransactionTable) (d : RegistrarInput) (m : Fields) where
   not-refused : (p : ℕ) (s : Bool) (o : Outgoing) (u : TransactionTable) → Rule (record { outcome = outcome.Done; fault = noFault; slot = record { 0 = p }; sends = s; outgoing = o; table = u })
   not-refused p s o u = record { from6 = λ k b e. done-refused k b e; below6 = λ k b e. done-refused k b e }
 
-  error-checked : (f : Option Transaction) (c : LowestRow) → Rule (registrarChecked c f t d m)
-  unfolding registrarChecked
-  error-checked f (stop k) =
+  refusing : (f : Option Transaction) (k : ℕ) → Rule (refusedMessage k f t (d .nonce) m)
+  refusing f k =
       record {
         from6 = λ j b e l. sends-at k _ _ _ _ (leb 6 k) refl j b e l;
         below6 = λ j b e l. below-at k (leb 6 k) refl (subst (λ (z : ℕ). z < 6) (sym (refused-number k j _ b e)) l);
       }
-  error-checked none pass = not-refused _ _ _ _
-  error-checked (some r) pass = cases Rule (isGranted (r .state)) _ _ (λ _. not-refused _ _ _ _) (λ _. record { from6 = λ k b e. again-refused k b e; below6 = λ k b e. again-refused k b e })
+
+  error-checked : (f : Option Transaction) (c : LowestRow) → Rule (registrarChecked c f t d m)
+  unfolding registrarChecked
+  error-checked f (stop k) = refusing f k
+  error-checked f pass =
+      cases Rule (opens m) _ _ (λ _. not-refused _ _ _ _)
+      (λ _.
+      cases Rule (confirms m) _ _
+      (λ _. cases Rule (isGranted (Option·getD f freeTransaction .state)) _ _ (λ _. not-refused _ _ _ _) (λ _. record { from6 = λ k b e. again-refused k b e; below6 = λ k b e. again-refused k b e }))
+      (λ _. refusing f 8))
 
 -- a message that reads
 pub error-rule : (t : TransactionTable) (d : RegistrarInput) (bytes : List ℕ) (m : Message) → readingOf bytes ≡ read.Clean m → ErrorRule (asId (fieldsOf bytes m .id)) (d .nonce) (asNonce (fieldsOf bytes m .senderNonce)) (registrarMessage t d bytes)

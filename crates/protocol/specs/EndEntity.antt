@@ -17,11 +17,11 @@ use Rattle.protocol.specs.declared.EndEntityAnswer.{EndEntityAnswer}
 use Rattle.protocol.specs.declared.EnrolmentState.the-variants.{Asked, Failed}
 use Rattle.protocol.specs.declared.Outcome.the-variants as outcome
 use Rattle.protocol.specs.Bytes.{noNonce, noHash, noId, asNonce}
-use Rattle.protocol.specs.Message.{isStartingKind, Fields, statusOr0, pkiConf, errorKind, fieldsOf}
+use Rattle.protocol.specs.Message.{isStartingKind, Fields, statusOr0, fieldsOf}
 use Rattle.protocol.specs.Outgoing.{silent, requestOut, certConfOut}
 use Rattle.protocol.specs.States.{decided, decision, assured, brokenState, isWaiting, isConfirming}
 use Rattle.protocol.specs.Refusals.{bitOf, LowestRow, stop, pass, readRefusal, lowestRow, noFault}
-use Rattle.protocol.specs.EndEntityRows.{endEntityRows}
+use Rattle.protocol.specs.EndEntityRows.{acknowledges, reports, responds, endEntityRows}
 
 -- ## Answers
 
@@ -76,12 +76,16 @@ confirming x accept h n a =
 abbrev pub responseTaken : Enrolment → EndEntityInput → Fields → EndEntityAnswer
 responseTaken x d m = cond (eqb (statusOr0 (m .status)) 2) (enrolmentMoved (inState x Failed)) (confirming x (d .accept) (d .hash) (d .nonce) (asNonce (m .senderNonce)))
 
+-- a message that no row refuses, by its kind; of another kind none comes here
+abbrev pub endEntityTaken : Enrolment → EndEntityInput → Fields → EndEntityAnswer
+endEntityTaken x d m =
+    cond (acknowledges m)
+    (enrolmentMoved (inState x (assured (x .state))))
+    (cond (reports m) (enrolmentMoved (inState x (brokenState (x .state)))) (cond (responds m) (responseTaken x d m) (enrolmentRefused 8 x)))
+
 unfoldable pub endEntityChecked : LowestRow → Enrolment → EndEntityInput → Fields → EndEntityAnswer
 endEntityChecked (stop k) x d m = enrolmentRefused k (afterRefusal k m x)
-endEntityChecked pass x d m =
-    cond (eqb (m .kind) pkiConf)
-    (enrolmentMoved (inState x (assured (x .state))))
-    (cond (eqb (m .kind) errorKind) (enrolmentMoved (inState x (brokenState (x .state)))) (responseTaken x d m))
+endEntityChecked pass x d m = endEntityTaken x d m
 
 -- "The reading is taken apart; a refusal ends the step at once"
 unfoldable pub endEntityRead : Reading → Enrolment → EndEntityInput → List ℕ → EndEntityAnswer

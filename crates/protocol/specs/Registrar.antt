@@ -2,7 +2,7 @@
 use Prim.Native.Nat.{ℕ}
 use mathlib.Core.List.{List}
 use mathlib.Core.Bool.{Bool, true, false, cond}
-use mathlib.Core.Option.{Option, none, some}
+use mathlib.Core.Option.{Option, none, some, Option·getD}
 use lib.Dec.{leb}
 use Rattle.message.specs.Read.{readingOf}
 use Rattle.message.specs.declared.ReadFault.{ReadFault}
@@ -28,7 +28,7 @@ use Rattle.protocol.specs.Outgoing.{silent, errorOut, pkiConfOut, respon
 use Rattle.protocol.specs.Table.{freeSlot, put, slotOf, replace, lookup, freeTransaction}
 use Rattle.protocol.specs.States.{isConfirmed, isGranted, settledState, mayIssue, mayRefuse, mayLapse, mayClose}
 use Rattle.protocol.specs.Refusals.{bitOf, LowestRow, stop, pass, lowestRow, readRefusal, noFault}
-use Rattle.protocol.specs.RegistrarRows.{registrarRows}
+use Rattle.protocol.specs.RegistrarRows.{opens, confirms, registrarRows}
 
 -- ## Answers
 
@@ -91,10 +91,16 @@ confirmed t r n m =
     (doneSending (slotOf (t .transactions) i) (replace (t .transactions) i (settled r (settledState (statusOr0 (m .status))) a)) (pkiConfOut i n a))
     (record { outcome = outcome.Again; fault = noFault; slot = record { 0 = slotOf (t .transactions) i }; sends = true; outgoing = pkiConfOut i n a; table = t })
 
+-- a message that no row refuses, by its kind: f is the transaction with its id; of another kind none comes here
+abbrev pub registrarTaken : Option Transaction → TransactionTable → RegistrarInput → Fields → RegistrarAnswer
+registrarTaken f t d m =
+    cond (opens m)
+    (opened t (d .verdict) m)
+    (cond (confirms m) (confirmed t (Option·getD f freeTransaction) (d .nonce) m) (refusedMessage 8 f t (d .nonce) m))
+
 unfoldable pub registrarChecked : LowestRow → Option Transaction → TransactionTable → RegistrarInput → Fields → RegistrarAnswer
 registrarChecked (stop k) f t d m = refusedMessage k f t (d .nonce) m
-registrarChecked pass none t d m = opened t (d .verdict) m
-registrarChecked pass (some r) t d m = confirmed t r (d .nonce) m
+registrarChecked pass f t d m = registrarTaken f t d m
 
 unfoldable pub registrarFields : TransactionTable → RegistrarInput → Fields → RegistrarAnswer
 registrarFields t d m =

@@ -6,7 +6,7 @@ use mathlib.Core.Option.{Option, none, some, Option·getD}
 use mathlib.Core.Path.{_≡_, refl, sym, _∙_}
 use mathlib.Core.Logic.{inl, inr}
 use native.Mathlib.Omega.{arith}
-use borrow.Author.Tests.{ltb-true, ltb-false, leb-true, ne-eqb}
+use borrow.Author.Tests.{ltb-true, ltb-false, leb-true, eq-eqb, ne-eqb}
 use lib.ListN.{length}
 use lib.Dec.{leb, ltb}
 use Rattle.grammar.specs.declared.Message.{Message}
@@ -26,7 +26,7 @@ use Rattle.protocol.specs.declared.Outgoing.{Outgoing}
 use Rattle.protocol.specs.declared.RegistrarAnswer.{RegistrarAnswer}
 use Rattle.protocol.specs.Bytes.{asId, asNonce, noNonce, noHash}
 use Rattle.grammar.specs.Span.{partOf}
-use Rattle.protocol.specs.Message.{Fields, fieldsOf, statusOr0}
+use Rattle.protocol.specs.Message.{Fields, fieldsOf, isOpeningKind, statusOr0}
 use Rattle.protocol.specs.Outgoing.{pkiConfOut}
 use Rattle.protocol.specs.Table.{lookup, slotOf, freeSlot, put, freeTransaction}
 use Rattle.protocol.specs.States.{isGranted, isConfirmed, settledState}
@@ -40,7 +40,7 @@ use Rattle.parts.specs.Parts.{sixteenOf}
 use Rattle.incoming.specs.Incoming.{numberOf, faultOf}
 use Rattle.parts.proofs.Laws.{copy-is}
 use Rattle.incoming.proofs.RowLaws.{check-append, orElse, stops-at, passes-all, allPositive}
-use Rattle.registrar.specs.Steps.{heldAt, withAt, foundBy, refusalAnswer, confirmation, repeated, Copied}
+use Rattle.registrar.specs.Steps.{heldAt, withAt, foundBy, refusalAnswer, confirmation, takenAt, repeated, Copied}
 use Rattle.registrar.proofs.SlotLaws.{free-set, slot-set, getD-past}
 use Rattle.registrar.proofs.HostLaws.{missing, found}
 
@@ -61,6 +61,20 @@ module _ (t : TransactionTable) (p : ℕ) (r : Transaction) (n : Nonce) (i : Tra
 
   pub confirm-again : isGranted (r .state) ≡ false → repeated p t o ≡ confirmation t p r n i a s
   confirm-again g = rw (g, eo)
+
+-- ## By the kind
+
+module _ (t : TransactionTable) (p : ℕ) (r : Transaction) (k s : ℕ) (d : RegistrarInput) (i : TransactionId) (a : Nonce) where
+  pub taken-opens :
+      {b : Board} → b ≡ boardNamed (d .verdict) → isOpeningKind k ≡ true →
+      doneQuietly (freeSlot (t .transactions)) (put (t .transactions) (record { id = i; board = b; kind = k; taken = a; sent = noNonce; hash = noHash; state = Asked })) ≡ takenAt t p r k s d i a
+  taken-opens e o = rw (e, o)
+
+  pub taken-confirms : isOpeningKind k ≡ false → k ≡ 24 → confirmation t p r (d .nonce) i a s ≡ takenAt t p r k s d i a
+  taken-confirms o q = rw (o, eq-eqb k 24 q)
+
+  pub taken-neither : {c : Bool} → c ≡ isConfirmed (r .state) → isOpeningKind k ≡ false → (k ≡ 24 → ⊥) → refusalAnswer 8 c t (d .nonce) i a ≡ takenAt t p r k s d i a
+  taken-neither e o q = rw (e, o, ne-eqb k 24 q)
 
 -- ## After the first five rows
 
@@ -120,26 +134,19 @@ module _ (t : TransactionTable) (d : RegistrarInput) {bytes : List ℕ} {msg : M
       unfolding allPositive
       passes-it z = rows-are ∙ passes-all (laterRows ts (foundBy k r) (d .verdict) r m) refl (sym z ∙ en)
 
-      pub later-confirmed : {s : ℕ} → s ≡ statusOr0 (m .status) → n ≡ 0 → k ≡ true → confirmation t p r (d .nonce) i a s ≡ later
+      pub later-taken : {s : ℕ} → s ≡ statusOr0 (m .status) → n ≡ 0 → takenAt t p r (m .kind) s d i a ≡ later
       unfolding registrarChecked
-      later-confirmed es z y =
+      later-taken es z =
           rw (
             es,
             passes-it z,
-            told-now .found,
-            y,
+            told-now .held,
+            told-now .confirmed,
             ← copied .id,
             ← copied .nonce,
             slot .0,
             slot-set ts i (settled r (settledState (statusOr0 (m .status))) a),
           )
-
-      -- the transaction that the code opens is the definition's
-      pub later-opened :
-          {b : Board} → b ≡ boardNamed (d .verdict) → n ≡ 0 → k ≡ false →
-          doneQuietly (freeSlot ts) (put ts (record { id = i; board = b; kind = m .kind; taken = a; sent = noNonce; hash = noHash; state = Asked })) ≡ later
-      unfolding registrarChecked
-      later-opened eb z y = rw (passes-it z, told-now .found, y, copied .id, copied .nonce, eb)
 
 -- ## The first five rows
 

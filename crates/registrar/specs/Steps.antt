@@ -5,26 +5,27 @@ use mathlib.Core.Bool.{Bool, true, false, cond}
 use mathlib.Core.Option.{Option, none, some, Option·getD}
 use mathlib.Core.Path.{_≡_}
 use lib.ListN.{getD, set}
-use lib.Dec.{leb}
+use lib.Dec.{eqb, leb}
 use Rattle.grammar.specs.declared.Message.{Message}
 use Rattle.protocol.specs.declared.TransactionId.{TransactionId}
 use Rattle.protocol.specs.declared.Nonce.{Nonce}
 use Rattle.protocol.specs.declared.Hash.{Hash}
 use Rattle.protocol.specs.declared.Outgoing.{Outgoing}
 use Rattle.protocol.specs.declared.TransactionState.{TransactionState}
+use Rattle.protocol.specs.declared.TransactionState.the-variants.{Asked}
 use Rattle.protocol.specs.declared.Transaction.{Transaction}
 use Rattle.protocol.specs.declared.TransactionTable.{TransactionTable}
 use Rattle.protocol.specs.declared.RegistrarInput.{RegistrarInput}
 use Rattle.protocol.specs.declared.RegistrarAnswer.{RegistrarAnswer}
 use Rattle.protocol.specs.declared.Outcome.the-variants as outcome
-use Rattle.protocol.specs.Bytes.{asId, asNonce}
-use Rattle.protocol.specs.Message.{Fields, fieldsOf, responseTo}
+use Rattle.protocol.specs.Bytes.{asId, asNonce, noNonce, noHash}
+use Rattle.protocol.specs.Message.{Fields, fieldsOf, isOpeningKind, certConf, responseTo}
 use Rattle.protocol.specs.Outgoing.{silent, errorOut, pkiConfOut, responseOut}
-use Rattle.protocol.specs.Table.{freeTransaction, lookup}
-use Rattle.protocol.specs.States.{isGranted, settledState}
+use Rattle.protocol.specs.Table.{freeTransaction, lookup, freeSlot, put}
+use Rattle.protocol.specs.States.{isGranted, isConfirmed, settledState}
 use Rattle.protocol.specs.Refusals.{lowestRow, bitOf, noFault}
 use Rattle.protocol.specs.RegistrarRows.{laterRows}
-use Rattle.protocol.specs.Registrar.{doneSending, settled, responded, registrarChecked}
+use Rattle.protocol.specs.Registrar.{boardNamed, doneQuietly, doneSending, settled, responded, registrarChecked}
 
 -- ## Slots
 
@@ -63,6 +64,13 @@ repeated p t o = record { outcome = outcome.Again; fault = noFault; slot = recor
 abbrev pub confirmation : TransactionTable → (p : ℕ) → (r : Transaction) → (fresh : Nonce) → (i : TransactionId) → (a : Nonce) → (status : ℕ) → RegistrarAnswer
 confirmation t p r n i a s =
     cond (isGranted (r .state)) (doneSending p (set (t .transactions) p (settled r (settledState s) a)) (pkiConfOut i n a)) (repeated p t (pkiConfOut i n a))
+
+-- a message that no row refuses, by its kind k: for the transaction r in the slot p, or for a new one
+abbrev pub takenAt : TransactionTable → (p : ℕ) → (r : Transaction) → (k status : ℕ) → RegistrarInput → (i : TransactionId) → (a : Nonce) → RegistrarAnswer
+takenAt t p r k s d i a =
+    cond (isOpeningKind k)
+    (doneQuietly (freeSlot (t .transactions)) (put (t .transactions) (record { id = i; board = boardNamed (d .verdict); kind = k; taken = a; sent = noNonce; hash = noHash; state = Asked })))
+    (cond (eqb k certConf) (confirmation t p r (d .nonce) i a s) (refusalAnswer 8 (isConfirmed (r .state)) t (d .nonce) i a))
 
 -- a response of this status for the transaction r in the slot p, which then is in the state s
 abbrev pub responseAnswer : TransactionTable → (p : ℕ) → (r : Transaction) → TransactionId → TransactionState → (status : ℕ) → Nonce → Hash → RegistrarAnswer

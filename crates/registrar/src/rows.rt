@@ -18,7 +18,7 @@ use protocol::Verdict;
 use protocol::kinds::is_opening_kind;
 use protocol::kinds::request_number;
 ghost use mathlib.Core.Path.{_≡_};
-ghost use mathlib.Core.Bool.{Bool, true, false, not, cond, _&&_, _||_};
+ghost use mathlib.Core.Bool.{true, false, not, cond, _&&_, _||_};
 ghost use lib.Dec.{eqb};
 ghost use Rattle.protocol.specs.Bytes.{isNonce, sameBytes};
 ghost use Rattle.grammar.specs.Span.{partOf};

@@ -34,12 +34,13 @@ use protocol::TransactionId;
 use protocol::TransactionState;
 use protocol::TransactionTable;
 use protocol::Verdict;
+use protocol::kinds::is_opening_kind;
 ghost use mathlib.Core.Path.{_≡_};
 ghost use Rattle.protocol.specs.Bytes.{noNonce, noHash};
 ghost use Rattle.protocol.specs.Message.{fieldsOf};
 ghost use Rattle.protocol.specs.Table.{freeSlot, put};
 ghost use Rattle.protocol.specs.Registrar.{boardNamed, doneQuietly, registrarFields, registrarMessage};
-ghost use Rattle.registrar.specs.Steps.{confirmation, Copied};
+ghost use Rattle.registrar.specs.Steps.{confirmation, takenAt, Copied};
 ghost use Rattle.registrar.specs.Steps.{headed as Steps·headed};
 
 fn board_named(verdict: Verdict) -> Board
@@ -95,6 +96,30 @@ fn confirm(
     again(slot, table, outgoing)
 }
 
+// A message that no row refuses, by its kind: `held` is the transaction in the slot. Of another kind none comes here.
+fn taken(
+    table: TransactionTable,
+    slot: Slot,
+    held: Transaction,
+    kind: u8,
+    status: u32,
+    input: RegistrarInput,
+    id: TransactionId,
+    answered: Nonce,
+) -> RegistrarAnswer
+    ensures { λ r. ⌜ r ≡ takenAt table (slot .0) held kind status input id answered ⌝ }
+{
+    let state = held.state;
+    let verdict = input.verdict;
+    if is_opening_kind(kind) {
+        return open(table, id, board_named(verdict), kind, answered);
+    }
+    if kind == 24 {
+        return confirm(table, slot, held, input.nonce, id, answered, status);
+    }
+    refused_message(8, is_confirmed(state), table, input.nonce, id, answered)
+}
+
 // A message that the rows 3 to 7 do not refuse: `id` and `answered` are its id and its senderNonce.
 fn headed(
     table: TransactionTable,
@@ -109,33 +134,26 @@ fn headed(
 {
     let body = m.body;
     let verdict = input.verdict;
+    let fresh = input.nonce;
     let slot = find(table, id);
     let held = transaction_at(table, Slot(slot));
     let known = slot < TransactionTable::CAPACITY;
     let number = later_refusal(table, bytes, m, known, held, verdict);
     if number != 0 {
         let state = held.state;
-        return refused_message(
-            number,
-            is_confirmed(state),
-            table,
-            input.nonce,
-            id,
-            answered,
-        );
+        return refused_message(number, is_confirmed(state), table, fresh, id, answered);
     }
-    if known {
-        return confirm(
-            table,
-            Slot(slot),
-            held,
-            input.nonce,
-            id,
-            answered,
-            status_or_0(body.entry),
-        );
-    }
-    open(table, id, board_named(verdict), body.kind, answered)
+    let status = status_or_0(body.entry);
+    taken(
+        table,
+        Slot(slot),
+        held,
+        body.kind,
+        status,
+        input,
+        id,
+        answered,
+    )
 }
 
 // A message that reads.

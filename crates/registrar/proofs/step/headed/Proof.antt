@@ -1,8 +1,8 @@
--- The later rows refuse it, or it confirms a transaction of the table, or opens one.
+-- The later rows refuse it, or it is taken.
 use mathlib.Core.Path.{_∙_}
 use borrow.Author.Needs.{needs}
 use Rattle.protocol.specs.Message.{fieldsOf}
-use Rattle.registrar.proofs.StepLaws.{later-refused, later-confirmed, later-opened}
+use Rattle.registrar.proofs.StepLaws.{later-refused, later-taken}
 use Rattle.registrar.proofs.step.headed.Statement.{statement}
 use Rattle.registrar.proofs.step.headed.Tie as tie
 
@@ -12,7 +12,7 @@ returns c =
     let rows = c .before .before .before in
     let held = rows .before in
     let found = held .before in
-    let start = found .before .before .before in
+    let start = found .before .before .before .before in
     c .refused-message .ensures
     ∙ later-refused (start .args .table) (start .args .input) (start .pre)
     (found .find .ensures) (held .transaction-at .ensures) (rows .later-refusal .ensures)
@@ -21,28 +21,15 @@ returns c =
 returns-2 : tie.Need-returns-2
 unfolding fieldsOf
 returns-2 c =
-    let known = c .before .before in
-    let rows = known .before .before in
+    let passed = c .before .before in
+    let rows = passed .before in
     let held = rows .before in
     let found = held .before in
-    let start = found .before .before .before in
-    c .confirm .ensures
-    ∙ later-confirmed (start .args .table) (start .args .input) (start .pre)
+    let start = found .before .before .before .before in
+    c .taken .ensures
+    ∙ later-taken (start .args .table) (start .args .input) (start .pre)
     (found .find .ensures) (held .transaction-at .ensures) (rows .later-refusal .ensures)
-    (c .before .status-or-0 .ensures) (known .before .if1 .left) (known .if2 .taken)
-
-returns-3 : tie.Need-returns-3
-unfolding fieldsOf
-returns-3 c =
-    let unknown = c .before .before in
-    let rows = unknown .before .before in
-    let held = rows .before in
-    let found = held .before in
-    let start = found .before .before .before in
-    c .«open» .ensures
-    ∙ later-opened (start .args .table) (start .args .input) (start .pre)
-    (found .find .ensures) (held .transaction-at .ensures) (rows .later-refusal .ensures)
-    (c .before .board-named .ensures) (unknown .before .if1 .left) (unknown .if2 .left)
+    (c .before .status-or-0 .ensures) (passed .if1 .left)
 
 pub headed-spec : {M : Type 1} → statement M
 headed-spec = tie.close (tie.spec
@@ -54,7 +41,4 @@ headed-spec = tie.close (tie.spec
     returns
     (λ c κs. search needs)
     (λ c κs. search needs)
-    returns-2
-    (λ c κs. search needs)
-    (λ c κs. search needs)
-    returns-3)
+    returns-2)
