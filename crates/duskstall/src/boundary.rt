@@ -10,8 +10,8 @@ use packed::enrolment::pack_enrolment;
 use packed::table::pack_table;
 use protocol::Board;
 use protocol::EndEntityAnswer;
+use protocol::FreshNonce;
 use protocol::Hash;
-use protocol::Nonce;
 use protocol::Outcome;
 use protocol::RegistrarAnswer;
 use protocol::TransactionId;
@@ -28,11 +28,11 @@ pub(crate) fn id_from(u: Unpacked16) -> TransactionId
     TransactionId { bytes }
 }
 
-pub(crate) fn nonce_from(u: Unpacked16) -> Nonce
+pub(crate) fn fresh_from(u: Unpacked16) -> FreshNonce
     ensures { λ r. ⌜ r ≡ record { bytes = u .bytes } ⌝ }
 {
     let bytes = u.bytes;
-    Nonce { bytes }
+    FreshNonce { bytes }
 }
 
 pub(crate) fn hash_from(u: Unpacked32) -> Hash

@@ -1,4 +1,4 @@
-// The end entity's answers, and the messages that it sends.
+// The end entity's answers.
 use crate::states::decided_state;
 use crate::states::decision_status;
 use der::Offset;
@@ -9,17 +9,17 @@ use protocol::EndEntityAnswer;
 use protocol::EndEntityInput;
 use protocol::Enrolment;
 use protocol::EnrolmentState;
-use protocol::FailureInfo;
+use protocol::FreshNonce;
 use protocol::Hash;
 use protocol::Nonce;
 use protocol::Outcome;
 use protocol::Outgoing;
 use protocol::TransactionId;
-use protocol::TransactionTable;
+use protocol::no_hash;
+use protocol::no_nonce;
 ghost use mathlib.Core.Path.{_≡_};
 ghost use Rattle.protocol.specs.Refusals.{noFault};
-ghost use Rattle.protocol.specs.Outgoing.{requestOut, certConfOut};
-ghost use Rattle.protocol.specs.EndEntity.{enrolmentRefused, enrolmentUnread, enrolmentMoved, inState, startedEnrolment, noEnrolment, confirmedEnrolment, confirming};
+ghost use Rattle.protocol.specs.EndEntity.{enrolmentRefused, enrolmentUnread, enrolmentMoved, inState, startedEnrolment, confirmedEnrolment, confirming};
 
 pub(crate) fn no_fault() -> ReadFault
     ensures { λ r. ⌜ r ≡ noFault ⌝ }
@@ -84,72 +84,16 @@ pub(crate) fn moved(enrolment: Enrolment, state: EnrolmentState) -> EndEntityAns
 }
 
 // The enrolment of a start that is not refused.
-pub(crate) fn started(kind: u8, id: TransactionId, nonce: Nonce) -> Enrolment
+pub(crate) fn started(kind: u8, id: TransactionId, nonce: FreshNonce) -> Enrolment
     ensures { λ r. ⌜ r ≡ startedEnrolment kind id nonce ⌝ }
 {
     Enrolment {
         id,
         kind,
-        last: nonce,
-        taken: Nonce { bytes: [0u8; 16] },
-        hash: Hash { bytes: [0u8; 32] },
+        last: nonce.nonce(),
+        taken: no_nonce(),
+        hash: no_hash(),
         state: EnrolmentState::Asked,
-    }
-}
-
-// What stands in the answer to a refused start.
-pub(crate) fn no_enrolment() -> Enrolment
-    ensures { λ r. ⌜ r ≡ noEnrolment ⌝ }
-{
-    Enrolment {
-        id: TransactionId {
-            bytes: [0u8; TransactionTable::ID_BYTES],
-        },
-        kind: 0,
-        last: Nonce { bytes: [0u8; 16] },
-        taken: Nonce { bytes: [0u8; 16] },
-        hash: Hash { bytes: [0u8; 32] },
-        state: EnrolmentState::Failed,
-    }
-}
-
-// ir, cr, p10cr or kur.
-pub(crate) fn request_out(kind: u8, id: TransactionId, nonce: Nonce) -> Outgoing
-    ensures { λ r. ⌜ r ≡ requestOut kind id nonce ⌝ }
-{
-    Outgoing {
-        kind,
-        id,
-        sender_nonce: nonce,
-        has_recip_nonce: false,
-        recip_nonce: Nonce { bytes: [0u8; 16] },
-        has_status: false,
-        status: 0,
-        hash: Hash { bytes: [0u8; 32] },
-        failure: FailureInfo::NoBit,
-    }
-}
-
-// certConf.
-fn cert_conf_out(
-    id: TransactionId,
-    nonce: Nonce,
-    answered: Nonce,
-    status: u32,
-    hash: Hash,
-) -> Outgoing
-    ensures { λ r. ⌜ r ≡ certConfOut id nonce answered status hash ⌝ }
-{
-    Outgoing {
-        kind: 24,
-        id,
-        sender_nonce: nonce,
-        has_recip_nonce: true,
-        recip_nonce: answered,
-        has_status: true,
-        status,
-        hash,
-        failure: FailureInfo::NoBit,
     }
 }
 
@@ -158,7 +102,7 @@ fn confirmed(
     enrolment: Enrolment,
     accept: bool,
     hash: Hash,
-    nonce: Nonce,
+    nonce: FreshNonce,
     answered: Nonce,
 ) -> Enrolment
     ensures { λ r. ⌜ r ≡ confirmedEnrolment enrolment accept hash nonce answered ⌝ }
@@ -167,7 +111,7 @@ fn confirmed(
     Enrolment {
         id,
         kind: enrolment.kind,
-        last: nonce,
+        last: nonce.nonce(),
         taken: answered,
         hash,
         state: decided_state(accept),
@@ -190,7 +134,7 @@ pub(crate) fn confirm(
         outcome: Outcome::Done,
         fault: no_fault(),
         sends: true,
-        outgoing: cert_conf_out(id, nonce, answered, decision_status(accept), hash),
+        outgoing: Outgoing::cert_conf(id, nonce, answered, decision_status(accept), hash),
         enrolment: confirmed(enrolment, accept, hash, nonce, answered),
     }
 }

@@ -5,14 +5,10 @@ mod states;
 
 use crate::answers::confirm;
 use crate::answers::moved;
-use crate::answers::no_enrolment;
 use crate::answers::no_fault;
 use crate::answers::refused;
-use crate::answers::request_out;
 use crate::answers::started;
 use crate::answers::unread;
-use crate::rows::ERROR;
-use crate::rows::PKI_CONF;
 use crate::rows::is_response;
 use crate::rows::lowest_refusal;
 use crate::states::assured_state;
@@ -28,9 +24,13 @@ use protocol::EndEntityAnswer;
 use protocol::EndEntityInput;
 use protocol::Enrolment;
 use protocol::EnrolmentState;
+use protocol::FreshNonce;
 use protocol::Nonce;
 use protocol::Outcome;
+use protocol::Outgoing;
 use protocol::TransactionId;
+use protocol::kinds::ERROR;
+use protocol::kinds::PKI_CONF;
 use protocol::kinds::is_starting_kind;
 ghost use mathlib.Core.Path.{_≡_};
 ghost use Rattle.protocol.specs.Bytes.{asNonce};
@@ -40,7 +40,7 @@ ghost use Rattle.protocol.specs.EndEntityRows.{endEntityRows};
 ghost use Rattle.protocol.specs.EndEntity.{endEntityStart, afterRefusal, endEntityChecked, endEntityMessage, endEntityTimeOut};
 
 // Starts an enrolment by a request of this kind, with the id and the nonce that the host drew.
-pub fn start(kind: u8, id: TransactionId, nonce: Nonce) -> EndEntityAnswer
+pub fn start(kind: u8, id: TransactionId, nonce: FreshNonce) -> EndEntityAnswer
     ensures { λ r. ⌜ r ≡ endEntityStart kind id nonce ⌝ }
 {
     if is_starting_kind(kind) {
@@ -48,11 +48,11 @@ pub fn start(kind: u8, id: TransactionId, nonce: Nonce) -> EndEntityAnswer
             outcome: Outcome::Done,
             fault: no_fault(),
             sends: true,
-            outgoing: request_out(kind, id, nonce),
+            outgoing: Outgoing::request(kind, id, nonce),
             enrolment: started(kind, id, nonce),
         };
     }
-    refused(32, no_enrolment())
+    refused(32, Enrolment::none())
 }
 
 // The enrolment after a refused message.

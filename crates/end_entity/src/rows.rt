@@ -14,6 +14,8 @@ use protocol::Enrolment;
 use protocol::EnrolmentState;
 use protocol::Nonce;
 use protocol::TransactionId;
+use protocol::kinds::ERROR;
+use protocol::kinds::PKI_CONF;
 use protocol::kinds::request_number;
 use protocol::kinds::response_to;
 ghost use mathlib.Core.Path.{_≡_};
@@ -25,11 +27,6 @@ ghost use Rattle.protocol.specs.States.{isWaiting, isConfirming};
 ghost use Rattle.protocol.specs.Refusals.{lowestRow};
 ghost use Rattle.protocol.specs.EndEntityRows.{endEntityRows};
 ghost use Rattle.incoming.specs.Incoming.{numberOf};
-
-// The kinds that are no response.
-pub const PKI_CONF: u8 = 19;
-
-pub const ERROR: u8 = 23;
 
 // ip, cp, kup
 pub(crate) fn is_response(kind: u8) -> bool

@@ -9,7 +9,7 @@ use Rattle.message.specs.Read.{readingOf}
 use Rattle.message.specs.declared.Reading.{Reading}
 use Rattle.message.specs.declared.Reading.the-variants as read
 use Rattle.protocol.specs.declared.TransactionId.{TransactionId}
-use Rattle.protocol.specs.declared.Nonce.{Nonce}
+use Rattle.protocol.specs.declared.FreshNonce.{FreshNonce}
 use Rattle.protocol.specs.declared.EndEntityInput.{EndEntityInput}
 use Rattle.protocol.specs.declared.EnrolmentState.{EnrolmentState}
 use Rattle.protocol.specs.declared.Enrolment.{Enrolment}
@@ -32,7 +32,7 @@ pub record EndEntitySized (a : EndEntityAnswer) : Type 0 where
   pub outgoing : OutgoingSized (a .outgoing)
   pub outcome : OutcomeBack (a .outcome)
 
-pub start-sized : (k : ℕ) (i : TransactionId) (n : Nonce) → length (i .bytes) ≡ 16 → length (n .bytes) ≡ 16 → EndEntitySized (endEntityStart k i n)
+pub start-sized : (k : ℕ) (i : TransactionId) (n : FreshNonce) → length (i .bytes) ≡ 16 → length (n .bytes) ≡ 16 → EndEntitySized (endEntityStart k i n)
 unfolding endEntityStart
 start-sized k i n p q =
     cases EndEntitySized (isStartingKind k) _ _

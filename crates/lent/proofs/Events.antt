@@ -21,7 +21,7 @@ use Rattle.packed.proofs.AnswerInverse.{registrar-code-at, end-entity-code-at}
 use Rattle.packed.proofs.TableInverse.{table-sized}
 use Rattle.packed.proofs.EnrolmentInverse.{enrolment-sized}
 use Rattle.duskstall.specs.Boundary.{Crossing, registrarWritten, registrarAnswered, registrarCrossing, endEntityWritten, endEntityAnswered, endEntityCrossing, startWritten, startCrossing}
-use Rattle.duskstall.specs.Calls.{idOf, nonceOf}
+use Rattle.duskstall.specs.Calls.{idOf, freshOf}
 use Rattle.lent.specs.Calls.{registrarCrosses, registrarAnswers, closing, endEntityCrosses, endEntityAnswers}
 use Rattle.lent.specs.Lent.{LentCall, AtRegistrar, AtEndEntity, EndEntityStart, LentEnrolment, LentEvent, LentWorld, heldBytes, crossing, isMade, lentStep, lentAfter, enrolmentLent}
 use Rattle.lent.proofs.Sizes.{sixteen-in}
@@ -79,7 +79,7 @@ plain w (AtEndEntity k c b) m =
     let h : Plain (f .args) (endEntityCrosses c s b) = subst (Plain (f .args)) (sym e) (board-plain (f .args) (endEntityAnswers c) s b (f .sized) (subst (λ (x : Crossing). isMade (x .code) ≡ true) e m)) in
     (h .code, tt)
 plain w (EndEntityStart d s k i n b) m =
-    let h : Plain (unpack16 i .ok && unpack16 n .ok) (crossing w (EndEntityStart d s k i n b)) = start-plain (unpack16 i .ok && unpack16 n .ok) (endEntityStart k (idOf i) (nonceOf n)) s b (start-sized k (idOf i) (nonceOf n) (sixteen-in i) (sixteen-in n)) m in
+    let h : Plain (unpack16 i .ok && unpack16 n .ok) (crossing w (EndEntityStart d s k i n b)) = start-plain (unpack16 i .ok && unpack16 n .ok) (endEntityStart k (idOf i) (freshOf n)) s b (start-sized k (idOf i) (freshOf n) (sixteen-in i) (sixteen-in n)) m in
     (h .code, length-16 i (and-left (unpack16 i .ok) (unpack16 n .ok) (h .args)))
 
 -- ## A call adds its event

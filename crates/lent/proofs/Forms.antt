@@ -23,7 +23,7 @@ use Rattle.packed.specs.Arrays.{unpack16, unpack32}
 use Rattle.packed.specs.Table.{TableSized}
 use Rattle.packed.specs.Enrolment.{EnrolmentSized}
 use Rattle.duskstall.specs.Boundary.{registrarCrossing, endEntityCrossing, yes, verdictOf}
-use Rattle.duskstall.specs.Calls.{idOf, nonceOf, hashOf, registrarInput, endEntityInput}
+use Rattle.duskstall.specs.Calls.{idOf, freshOf, hashOf, registrarInput, endEntityInput}
 use Rattle.lent.specs.Calls.{RegistrarCall, RegistrarMessage, RegistrarIssue, RegistrarRefuse, RegistrarLapse, RegistrarClose, registrarCrosses, registrarStep, registrarAnswers, registrarRefusals, closing}
 use Rattle.lent.specs.Calls.{EndEntityCall, EndEntityMessage, EndEntityTimeOut, endEntityCrosses, endEntityStep, endEntityAnswers, endEntityRefusals}
 use Rattle.lent.specs.Lent.{LentEvent, closedBy, eventsOf}
@@ -99,8 +99,8 @@ registrar-form (RegistrarIssue i n h) =
       args = unpack16 i .ok && (unpack16 n .ok && unpack32 h .ok);
       crosses = λ _ _. refl;
       steps = λ _. refl;
-      promise = λ t. at-registrar.issue-promise t (idOf i) (nonceOf n) (hashOf h);
-      sized = λ t z. registrar-sizes.issue-sized t z (idOf i) (sixteen-in i) (nonceOf n) (hashOf h) (sixteen-in n) (thirty-two-in h);
+      promise = λ t. at-registrar.issue-promise t (idOf i) (freshOf n) (hashOf h);
+      sized = λ t z. registrar-sizes.issue-sized t z (idOf i) (sixteen-in i) (freshOf n) (hashOf h) (sixteen-in n) (thirty-two-in h);
       closes = λ j e. none-some e;
       fits = λ f. and (ok-16 i (f .0)) (and (ok-16 n (f .1)) (ok-32 h (f .2)));
       good = λ _. ((λ _. tt), (λ _. tt));
@@ -110,8 +110,8 @@ registrar-form (RegistrarRefuse i n) =
       args = unpack16 i .ok && unpack16 n .ok;
       crosses = λ _ _. refl;
       steps = λ _. refl;
-      promise = λ t. at-registrar.refuse-promise t (idOf i) (nonceOf n);
-      sized = λ t z. registrar-sizes.refuse-sized t z (idOf i) (sixteen-in i) (nonceOf n) (sixteen-in n);
+      promise = λ t. at-registrar.refuse-promise t (idOf i) (freshOf n);
+      sized = λ t z. registrar-sizes.refuse-sized t z (idOf i) (sixteen-in i) (freshOf n) (sixteen-in n);
       closes = λ j e. none-some e;
       fits = λ f. and (ok-16 i (f .0)) (ok-16 n (f .1));
       good = λ _. ((λ _. tt), (λ _. tt));

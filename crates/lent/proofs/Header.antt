@@ -104,8 +104,8 @@ module _ (w : LentWorld) (ok : unpackTable (w .table) .ok ≡ true) (all : Enrol
           id = ap (λ (z : Outgoing). z .id .bytes) h;
           senderNonce = ap (λ (z : Outgoing). z .«sender_nonce» .bytes) h;
           recipNonce = ap (λ (z : Outgoing). z .«recip_nonce» .bytes) h;
-          status = ap (λ (z : Outgoing). z .status) h;
-          hash = ap (λ (z : Outgoing). z .hash .bytes) h;
+          status = ap (λ (z : Outgoing). z .contents .status) h;
+          hash = ap (λ (z : Outgoing). z .contents .hash .bytes) h;
         }
 
     -- the transaction of an enrolment, found or closed

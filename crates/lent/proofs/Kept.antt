@@ -27,7 +27,7 @@ use Rattle.packed.proofs.TableInverse as table-inverse
 use Rattle.packed.proofs.EnrolmentInverse as enrolment-inverse
 use Rattle.packed.proofs.AnswerInverse.{registrar-refusal-at, end-entity-refusal-at}
 use Rattle.duskstall.specs.Boundary.{Crossing, boundaryFault, unlessFaulty, registrarWritten, registrarAnswered, registrarCrossing, endEntityWritten, endEntityAnswered, endEntityCrossing, startWritten, startCrossing}
-use Rattle.duskstall.specs.Calls.{idOf, nonceOf}
+use Rattle.duskstall.specs.Calls.{idOf, freshOf}
 use Rattle.lent.specs.Calls.{registrarAnswers, registrarRefusals, EndEntityCall, endEntityAnswers, endEntityRefusals}
 use Rattle.lent.specs.Lent.{LentCall, AtRegistrar, AtEndEntity, EndEntityStart, LentWorld, heldBytes, crossing, isMade}
 use Rattle.lent.specs.Kept.{stateLent, answerLent, refusalsOf, MayRepeat, Kept, LentPromise, LentDemand1, KeptByContract}
@@ -139,7 +139,7 @@ module _ (w : LentWorld) where
   pub start-promised : (d : Board) (s : List ℕ) (k : ℕ) (i n b : List ℕ) → LentPromise w (EndEntityStart d s k i n b)
   start-promised d s k i n b =
       of-keeps (EndEntityStart d s k i n b)
-      (start-keeps (endEntityStart k (idOf i) (nonceOf n)) (start-sized k (idOf i) (nonceOf n) (sixteen-in i) (sixteen-in n)) (start-never k (idOf i) (nonceOf n)) (λ m q e. start-promise k (idOf i) (nonceOf n) m q e .0) s b _)
+      (start-keeps (endEntityStart k (idOf i) (freshOf n)) (start-sized k (idOf i) (freshOf n) (sixteen-in i) (sixteen-in n)) (start-never k (idOf i) (freshOf n)) (λ m q e. start-promise k (idOf i) (freshOf n) m q e .0) s b _)
 
   -- also where the bytes are those of a run, of which nothing is supposed
   pub promised : (unpackTable (w .table) .ok ≡ true → packTable (unpackTable (w .table) .table) ≡ w .table) → (c : LentCall) → LentPromise w c

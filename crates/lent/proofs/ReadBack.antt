@@ -21,7 +21,7 @@ use Rattle.packed.specs.Table.{packTable, unpackTable, TableSized}
 use Rattle.packed.specs.Enrolment.{enrolmentBytes, packEnrolment, packEnrolmentIn, unpackEnrolment, EnrolmentSized}
 use Rattle.packed.proofs.AnswerInverse.{registrar-back, end-entity-back, end-entity-outcome-back, end-entity-fault-back, end-entity-sends-back, end-entity-outgoing-back}
 use Rattle.duskstall.specs.Boundary.{Crossing, registrarWritten, registrarAnswered, registrarCrossing, endEntityWritten, endEntityAnswered, endEntityCrossing, startWritten, startCrossing}
-use Rattle.duskstall.specs.Calls.{idOf, nonceOf}
+use Rattle.duskstall.specs.Calls.{idOf, freshOf}
 use Rattle.lent.specs.Calls.{registrarCrosses, registrarAnswers, endEntityCrosses, endEntityAnswers}
 use Rattle.lent.specs.Lent.{AtRegistrar, AtEndEntity, EndEntityStart, LentWorld, heldBytes, isMade, lentAfter, lentBeginning, made}
 use Rattle.lent.specs.Reads.{RegistrarReads, EndEntityReads, StartReads, tableIn, enrolmentIn, LentReads, LentSound}
@@ -86,7 +86,7 @@ lent-reads w (AtEndEntity k c b) m =
     let s : List ℕ = heldBytes (getElem? (w .enrolments) k) in
     let e : endEntityCrosses c s b ≡ endEntityCrossing (f .args) (endEntityAnswers c) s b = f .crosses s b in
     subst (λ (x : Crossing). EndEntityReads x (endEntityAnswers c (enrolmentIn w k))) (sym e) (board-reads (f .args) (endEntityAnswers c) s b (f .sized) (subst (λ (x : Crossing). isMade (x .code) ≡ true) e m))
-lent-reads w (EndEntityStart d s k i n b) m = start-reads (unpack16 i .ok && unpack16 n .ok) (endEntityStart k (idOf i) (nonceOf n)) s b (start-sized k (idOf i) (nonceOf n) (sixteen-in i) (sixteen-in n)) m
+lent-reads w (EndEntityStart d s k i n b) m = start-reads (unpack16 i .ok && unpack16 n .ok) (endEntityStart k (idOf i) (freshOf n)) s b (start-sized k (idOf i) (freshOf n) (sixteen-in i) (sixteen-in n)) m
 
 -- ## After any list of calls: nothing is supposed of the bytes
 

@@ -11,7 +11,7 @@ use Rattle.message.specs.Read.{readingOf}
 use Rattle.message.specs.declared.Reading.{Reading}
 use Rattle.message.specs.declared.Reading.the-variants as read
 use Rattle.protocol.specs.declared.TransactionId.{TransactionId}
-use Rattle.protocol.specs.declared.Nonce.{Nonce}
+use Rattle.protocol.specs.declared.FreshNonce.{FreshNonce}
 use Rattle.protocol.specs.declared.Hash.{Hash}
 use Rattle.protocol.specs.declared.RegistrarInput.{RegistrarInput}
 use Rattle.protocol.specs.declared.Transaction.{Transaction}
@@ -55,7 +55,7 @@ module _ (t : TransactionTable) (z : TableSized t) where
         cases RegistrarSized (ok r) (g r) (refusedQuietly 31 t) (λ _. s r (lookup-sized (t .transactions) i (z .each) r h))
         (λ _. record { table = z; outgoing = silent-sized; outcome = bit-back 31 false; slot = omega arith })
 
-    pub issue-sized : (n : Nonce) (h : Hash) → length (n .bytes) ≡ 16 → length (h .bytes) ≡ 32 → RegistrarSized (registrarIssue t i n h)
+    pub issue-sized : (n : FreshNonce) (h : Hash) → length (n .bytes) ≡ 16 → length (h .bytes) ≡ 32 → RegistrarSized (registrarIssue t i n h)
     unfolding registrarIssue
     issue-sized n h p q =
         host mayIssue _ _ refl
@@ -67,7 +67,7 @@ module _ (t : TransactionTable) (z : TableSized t) where
           slot = slot-small t z i;
         })
 
-    pub refuse-sized : (n : Nonce) → length (n .bytes) ≡ 16 → RegistrarSized (registrarRefuse t i n)
+    pub refuse-sized : (n : FreshNonce) → length (n .bytes) ≡ 16 → RegistrarSized (registrarRefuse t i n)
     unfolding registrarRefuse
     refuse-sized n p =
         host mayRefuse _ _ refl

@@ -21,7 +21,7 @@ use Rattle.packed.specs.Answer.{endEntityAnswerBytes}
 use Rattle.packed.specs.Enrolment.{enrolmentBytes, packEnrolmentIn}
 use Rattle.packed.proofs.AnswerInverse.{end-entity-outcome-back}
 use Rattle.duskstall.specs.Boundary.{Crossing, boundaryFault, unlessFaulty, startWritten, startCrossing}
-use Rattle.duskstall.specs.Calls.{idOf, nonceOf}
+use Rattle.duskstall.specs.Calls.{idOf, freshOf}
 use Rattle.lent.specs.Lent.{LentCall, EndEntityStart, callOf, LentWorld, startLent, isMade, eventsOf}
 use Rattle.lent.proofs.Sizes.{sixteen-in}
 use Rattle.lent.proofs.EndEntitySizes.{EndEntitySized, start-sized}
@@ -77,10 +77,10 @@ module _ (l : LentWorld) (w : World) (st : Stands l w) (d : Board) (s : List ℕ
   unfolding startCrossing
   crossed a z p h = at a (eqb (length s) enrolmentBytes) p (leb endEntityAnswerBytes (length b)) h
 
-  pub start-step : (p : Bool) → After (endEntityStart k (idOf i) (nonceOf n)) (startCrossing p (endEntityStart k (idOf i) (nonceOf n)) s b)
+  pub start-step : (p : Bool) → After (endEntityStart k (idOf i) (freshOf n)) (startCrossing p (endEntityStart k (idOf i) (freshOf n)) s b)
   unfolding endEntityStart
   start-step p =
       cases (λ (a : EndEntityAnswer). EndEntitySized a → After a (startCrossing p a s b)) (isStartingKind k) _ _
       (λ _ z. crossed _ z p (done _ _ _ _ z))
       (λ _ z. crossed _ z p (λ _. refused _ _ _ _ _ _ z))
-      (start-sized k (idOf i) (nonceOf n) (sixteen-in i) (sixteen-in n))
+      (start-sized k (idOf i) (freshOf n) (sixteen-in i) (sixteen-in n))

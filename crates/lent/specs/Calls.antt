@@ -12,7 +12,7 @@ use Rattle.protocol.specs.EndEntity.{endEntityMessage, endEntityTimeOut}
 use Rattle.protocol.specs.Promises.{registrarNumbers, endEntityNumbers, hostNumbers}
 use Rattle.protocol.specs.Run.{Call, ToRegistrar, ToEndEntity, Issue, Refuse, Lapse, Close, TimeOut}
 use Rattle.duskstall.specs.Boundary.{Crossing}
-use Rattle.duskstall.specs.Calls.{idOf, nonceOf, hashOf, registrarInput, endEntityInput, registrarMessageCrossing, issueCrossing, refuseCrossing, lapseCrossing, closeCrossing, endEntityMessageCrossing, timeOutCrossing}
+use Rattle.duskstall.specs.Calls.{idOf, freshOf, hashOf, registrarInput, endEntityInput, registrarMessageCrossing, issueCrossing, refuseCrossing, lapseCrossing, closeCrossing, endEntityMessageCrossing, timeOutCrossing}
 
 -- ## The registrar
 
@@ -34,15 +34,15 @@ registrarCrosses (RegistrarClose i) = closeCrossing i
 -- the call on values that it stands for, and what that answers
 abbrev pub registrarStep : RegistrarCall → Call
 registrarStep (RegistrarMessage bytes g b n) = ToRegistrar bytes (registrarInput g b n)
-registrarStep (RegistrarIssue i n h) = Issue (idOf i) (hashOf h) (nonceOf n)
-registrarStep (RegistrarRefuse i n) = Refuse (idOf i) (nonceOf n)
+registrarStep (RegistrarIssue i n h) = Issue (idOf i) (hashOf h) (freshOf n)
+registrarStep (RegistrarRefuse i n) = Refuse (idOf i) (freshOf n)
 registrarStep (RegistrarLapse i) = Lapse (idOf i)
 registrarStep (RegistrarClose i) = Close (idOf i)
 
 abbrev pub registrarAnswers : RegistrarCall → TransactionTable → RegistrarAnswer
 registrarAnswers (RegistrarMessage bytes g b n) t = registrarMessage t (registrarInput g b n) bytes
-registrarAnswers (RegistrarIssue i n h) t = registrarIssue t (idOf i) (nonceOf n) (hashOf h)
-registrarAnswers (RegistrarRefuse i n) t = registrarRefuse t (idOf i) (nonceOf n)
+registrarAnswers (RegistrarIssue i n h) t = registrarIssue t (idOf i) (freshOf n) (hashOf h)
+registrarAnswers (RegistrarRefuse i n) t = registrarRefuse t (idOf i) (freshOf n)
 registrarAnswers (RegistrarLapse i) t = registrarLapse t (idOf i)
 registrarAnswers (RegistrarClose i) t = registrarClose t (idOf i)
 

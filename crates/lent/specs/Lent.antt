@@ -20,7 +20,7 @@ use Rattle.packed.specs.Answer.{outcomeOf}
 use Rattle.packed.specs.Table.{tableBytes, unpackTable, packTableIn}
 use Rattle.packed.specs.Enrolment.{unpackEnrolment}
 use Rattle.duskstall.specs.Boundary.{Crossing}
-use Rattle.duskstall.specs.Calls.{idOf, nonceOf, endEntityStartCrossing}
+use Rattle.duskstall.specs.Calls.{idOf, freshOf, endEntityStartCrossing}
 use Rattle.lent.specs.Calls.{RegistrarCall, EndEntityCall, registrarCrosses, endEntityCrosses, registrarStep, endEntityStep, closing}
 
 -- ## Calls
@@ -36,7 +36,7 @@ pub data LentCall : Type 0 where
 abbrev pub callOf : LentCall → Call
 callOf (AtRegistrar c a) = registrarStep c
 callOf (AtEndEntity k c a) = endEntityStep k c
-callOf (EndEntityStart b s k i n a) = Start b k (idOf i) (nonceOf n)
+callOf (EndEntityStart b s k i n a) = Start b k (idOf i) (freshOf n)
 
 -- ## The world of bytes
 

@@ -17,7 +17,7 @@ use Rattle.packed.specs.Answer.{outcomeNumber, outcomeOf, readFaultOf, registra
 use Rattle.packed.specs.Table.{tableBytes, unpackTable}
 use Rattle.packed.specs.Enrolment.{unpackEnrolment}
 use Rattle.duskstall.specs.Boundary.{Crossing}
-use Rattle.duskstall.specs.Calls.{idOf, nonceOf}
+use Rattle.duskstall.specs.Calls.{idOf, freshOf}
 use Rattle.lent.specs.Calls.{registrarAnswers, endEntityAnswers}
 use Rattle.lent.specs.Lent.{LentCall, AtRegistrar, AtEndEntity, EndEntityStart, LentWorld, heldBytes, crossing, isMade, lentAfter, lentBeginning}
 use Rattle.lent.specs.Kept.{LentPromise}
@@ -55,7 +55,7 @@ pub record StartReads (x : Crossing) (a : EndEntityAnswer) : Type 0 where
 abbrev pub ReadsBack : LentWorld → LentCall → Type 0
 ReadsBack w (AtRegistrar c a) = RegistrarReads (crossing w (AtRegistrar c a)) (registrarAnswers c (tableIn w))
 ReadsBack w (AtEndEntity k c a) = EndEntityReads (crossing w (AtEndEntity k c a)) (endEntityAnswers c (enrolmentIn w k))
-ReadsBack w (EndEntityStart b s k i n a) = StartReads (crossing w (EndEntityStart b s k i n a)) (endEntityStart k (idOf i) (nonceOf n))
+ReadsBack w (EndEntityStart b s k i n a) = StartReads (crossing w (EndEntityStart b s k i n a)) (endEntityStart k (idOf i) (freshOf n))
 
 -- on any bytes at all
 abbrev pub LentReads : Type 0

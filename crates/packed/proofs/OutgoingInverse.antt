@@ -5,7 +5,7 @@ use mathlib.Core.Path.{_≡_, sym, _∙_, ap}
 use lib.ListN.{length}
 use Rattle.protocol.specs.declared.Outgoing.{Outgoing}
 use Rattle.packed.specs.Places.{idBytes, nonceBytes, hashBytes}
-use Rattle.packed.specs.Outgoing.{failureNumber, failureOf, outgoingBytes, packNames, packStatus, packOutgoing, outgoingOf, OutgoingSized}
+use Rattle.packed.specs.Outgoing.{failureNumber, failureOf, outgoingBytes, packNames, packContents, packOutgoing, outgoingOf, OutgoingSized}
 use Rattle.packed.proofs.FieldLaws.{Field, Bytes, Byte, Four, Flag, joined, AllFit, AllRead, read-back, joined-length}
 
 abbrev fields : Outgoing → List Field
@@ -15,10 +15,10 @@ fields o =
     ∷ Bytes nonceBytes (o .«sender_nonce» .bytes)
     ∷ Flag (o .«has_recip_nonce»)
     ∷ Bytes nonceBytes (o .«recip_nonce» .bytes)
-    ∷ Flag (o .«has_status»)
-    ∷ Four (o .status)
-    ∷ Bytes hashBytes (o .hash .bytes)
-    ∷ Byte (failureNumber (o .failure))
+    ∷ Flag (o .contents .«has_status»)
+    ∷ Four (o .contents .status)
+    ∷ Bytes hashBytes (o .contents .hash .bytes)
+    ∷ Byte (failureNumber (o .contents .failure))
     ∷ []
 
 module _ (o : Outgoing) (z : OutgoingSized o) where
@@ -26,7 +26,7 @@ module _ (o : Outgoing) (z : OutgoingSized o) where
   all-fit = search
 
   all-are : (rest : List ℕ) → packOutgoing o ++ rest ≡ joined (fields o) rest
-  unfolding packNames packStatus
+  unfolding packNames packContents
   all-are rest = simp append-assoc
 
   is-read : (s : List ℕ) → AllRead 0 (fields o) s → outgoingOf s ≡ o
@@ -38,10 +38,7 @@ module _ (o : Outgoing) (z : OutgoingSized o) where
         «sender_nonce» = record { bytes = sender-nonce i };
         «has_recip_nonce» = has-recip-nonce i;
         «recip_nonce» = record { bytes = recip-nonce i };
-        «has_status» = has-status i;
-        status = status i;
-        hash = record { bytes = hash i };
-        failure = (ap failureOf failure ∙ z .failure) i;
+        contents = record { «has_status» = has-status i; status = status i; hash = record { bytes = hash i }; failure = (ap failureOf failure ∙ z .failure) i };
       }
 
   pub outgoing-back : (rest : List ℕ) → outgoingOf (packOutgoing o ++ rest) ≡ o

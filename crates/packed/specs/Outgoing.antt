@@ -7,6 +7,7 @@ use lib.ListN.{length, getD}
 use lib.Dec.{eqb}
 use Rattle.protocol.specs.declared.FailureInfo.{FailureInfo}
 use Rattle.protocol.specs.declared.FailureInfo.the-variants.{NoBit, Bit}
+use Rattle.protocol.specs.declared.Contents.{Contents}
 use Rattle.protocol.specs.declared.Outgoing.{Outgoing}
 use Rattle.packed.specs.Bytes.{part, flag, flagAt, fourBytes, fourAt}
 use Rattle.packed.specs.Places.{idBytes, nonceBytes, hashBytes, outgoingKindAt, outgoingIdAt, outgoingSenderNonceAt, outgoingHasRecipNonceAt, outgoingRecipNonceAt, outgoingHasStatusAt, outgoingStatusAt, outgoingHashAt, outgoingFailureAt, outgoingEnd}
@@ -32,15 +33,25 @@ packNames o =
     o .«recip_nonce» .bytes)))
 
 -- status, hash and failure
-unfoldable pub packStatus : Outgoing → List ℕ
-packStatus o =
-    (flag (o .«has_status») ∷ []) ++ (
-    fourBytes (o .status) ++ (
-    o .hash .bytes ++ (
-    failureNumber (o .failure) ∷ [])))
+unfoldable pub packContents : Contents → List ℕ
+packContents c =
+    (flag (c .«has_status») ∷ []) ++ (
+    fourBytes (c .status) ++ (
+    c .hash .bytes ++ (
+    failureNumber (c .failure) ∷ [])))
 
 abbrev pub packOutgoing : Outgoing → List ℕ
-packOutgoing o = packNames o ++ packStatus o
+packOutgoing o = packNames o ++ packContents (o .contents)
+
+-- what these bytes say that a message carries
+abbrev pub contentsOf : List ℕ → Contents
+contentsOf s =
+    record {
+      «has_status» = flagAt outgoingHasStatusAt s;
+      status = fourAt outgoingStatusAt s;
+      hash = record { bytes = part outgoingHashAt hashBytes s };
+      failure = failureOf (getD s outgoingFailureAt 0);
+    }
 
 -- what the first bytes of a string say is to be sent
 unfoldable pub outgoingOf : List ℕ → Outgoing
@@ -51,10 +62,7 @@ outgoingOf s =
       «sender_nonce» = record { bytes = part outgoingSenderNonceAt nonceBytes s };
       «has_recip_nonce» = flagAt outgoingHasRecipNonceAt s;
       «recip_nonce» = record { bytes = part outgoingRecipNonceAt nonceBytes s };
-      «has_status» = flagAt outgoingHasStatusAt s;
-      status = fourAt outgoingStatusAt s;
-      hash = record { bytes = part outgoingHashAt hashBytes s };
-      failure = failureOf (getD s outgoingFailureAt 0);
+      contents = contentsOf s;
     }
 
 -- for the theorems: the arrays have their lengths, and no bit is 255
@@ -62,5 +70,5 @@ pub record OutgoingSized (o : Outgoing) : Type 0 where
   pub id : length (o .id .bytes) ≡ idBytes
   pub sender : length (o .«sender_nonce» .bytes) ≡ nonceBytes
   pub recip : length (o .«recip_nonce» .bytes) ≡ nonceBytes
-  pub hash : length (o .hash .bytes) ≡ hashBytes
-  pub failure : failureOf (failureNumber (o .failure)) ≡ o .failure
+  pub hash : length (o .contents .hash .bytes) ≡ hashBytes
+  pub failure : failureOf (failureNumber (o .contents .failure)) ≡ o .contents .failure

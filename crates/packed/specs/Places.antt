@@ -118,8 +118,12 @@ outgoingHasRecipNonceAt = outgoingSenderNonceAt + nonceBytes
 abbrev pub outgoingRecipNonceAt : ℕ
 outgoingRecipNonceAt = outgoingHasRecipNonceAt + flagBytes
 
+-- what only some kinds carry
+abbrev pub outgoingContentsAt : ℕ
+outgoingContentsAt = outgoingRecipNonceAt + nonceBytes
+
 abbrev pub outgoingHasStatusAt : ℕ
-outgoingHasStatusAt = outgoingRecipNonceAt + nonceBytes
+outgoingHasStatusAt = outgoingContentsAt
 
 abbrev pub outgoingStatusAt : ℕ
 outgoingStatusAt = outgoingHasStatusAt + flagBytes
@@ -133,9 +137,8 @@ outgoingFailureAt = outgoingHashAt + hashBytes
 abbrev pub outgoingEnd : ℕ
 outgoingEnd = outgoingFailureAt + bitBytes
 
--- its part from "has status" on
-abbrev pub statusPartBytes : ℕ
-statusPartBytes = outgoingEnd - outgoingHasStatusAt
+abbrev pub contentsPartBytes : ℕ
+contentsPartBytes = outgoingEnd - outgoingContentsAt
 
 -- ## An answer: first what both ends say, then each end's own
 

@@ -78,14 +78,7 @@ fn none_unpacked() -> UnpackedEnrolment
 {
     UnpackedEnrolment {
         ok: false,
-        enrolment: Enrolment {
-            id: TransactionId { bytes: [0u8; 16] },
-            kind: 0,
-            last: Nonce { bytes: [0u8; 16] },
-            taken: Nonce { bytes: [0u8; 16] },
-            hash: Hash { bytes: [0u8; 32] },
-            state: EnrolmentState::Failed,
-        },
+        enrolment: Enrolment::none(),
     }
 }
 

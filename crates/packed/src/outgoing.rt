@@ -5,14 +5,15 @@ use crate::bytes::put_16;
 use crate::bytes::put_32;
 use crate::bytes::put_flag;
 use crate::places;
+use protocol::Contents;
 use protocol::FailureInfo;
 use protocol::Outgoing;
 ghost use mathlib.Core.Path.{_≡_};
 ghost use Prim.Native.Nat.{_+_, _≤_};
 ghost use lib.ListN.{length};
 ghost use Rattle.packed.specs.Bytes.{Placed};
-ghost use Rattle.packed.specs.Places.{outgoingHasStatusAt, statusPartBytes};
-ghost use Rattle.packed.specs.Outgoing.{failureNumber, outgoingBytes, packNames, packStatus, packOutgoing};
+ghost use Rattle.packed.specs.Places.{outgoingContentsAt, contentsPartBytes};
+ghost use Rattle.packed.specs.Outgoing.{failureNumber, outgoingBytes, packNames, packContents, packOutgoing};
 
 pub(crate) fn failure_number(f: FailureInfo) -> u8
     ensures { λ r. ⌜ r ≡ failureNumber f ⌝ }
@@ -25,8 +26,8 @@ pub(crate) fn failure_number(f: FailureInfo) -> u8
 
 // Kind, id and nonces.
 fn put_names(bytes: &mut [u8], at: usize, o: Outgoing)
-    requires { ⌜ at + outgoingHasStatusAt ≤ length (now bytes) ⌝ }
-    ensures { λ _. ⌜ Placed at outgoingHasStatusAt (packNames o) (now (bytes .entry)) (now (bytes .exit)) ⌝ }
+    requires { ⌜ at + outgoingContentsAt ≤ length (now bytes) ⌝ }
+    ensures { λ _. ⌜ Placed at outgoingContentsAt (packNames o) (now (bytes .entry)) (now (bytes .exit)) ⌝ }
 {
     let id = o.id.bytes;
     let sender_nonce = o.sender_nonce.bytes;
@@ -42,15 +43,15 @@ fn put_names(bytes: &mut [u8], at: usize, o: Outgoing)
     put_16(bytes, at + places::OUTGOING_RECIP_NONCE, recip_nonce);
 }
 
-// Status, hash and failure, of the message that starts at the offset.
-fn put_status(bytes: &mut [u8], at: usize, o: Outgoing)
+// What only some kinds carry, of the message that starts at the offset.
+fn put_contents(bytes: &mut [u8], at: usize, c: Contents)
     requires { ⌜ at + outgoingBytes ≤ length (now bytes) ⌝ }
-    ensures { λ _. ⌜ Placed (at + outgoingHasStatusAt) statusPartBytes (packStatus o) (now (bytes .entry)) (now (bytes .exit)) ⌝ }
+    ensures { λ _. ⌜ Placed (at + outgoingContentsAt) contentsPartBytes (packContents c) (now (bytes .entry)) (now (bytes .exit)) ⌝ }
 {
-    let hash = o.hash.bytes;
-    let failure = o.failure;
-    put_flag(bytes, at + places::OUTGOING_HAS_STATUS, o.has_status);
-    put_4(bytes, at + places::OUTGOING_STATUS, o.status);
+    let hash = c.hash.bytes;
+    let failure = c.failure;
+    put_flag(bytes, at + places::OUTGOING_HAS_STATUS, c.has_status);
+    put_4(bytes, at + places::OUTGOING_STATUS, c.status);
     put_32(bytes, at + places::OUTGOING_HASH, hash);
     put_1(
         bytes,
@@ -65,5 +66,5 @@ pub(crate) fn put_outgoing(bytes: &mut [u8], at: usize, o: Outgoing)
     ensures { λ _. ⌜ Placed at outgoingBytes (packOutgoing o) (now (bytes .entry)) (now (bytes .exit)) ⌝ }
 {
     put_names(bytes, at, o);
-    put_status(bytes, at, o);
+    put_contents(bytes, at, o.contents);
 }

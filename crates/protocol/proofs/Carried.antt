@@ -42,15 +42,15 @@ module _ (bytes : List ℕ) (m : Message) (o : Outgoing) (c : Carries bytes m o)
   unfolding fieldsOf
   recip-read n h e = nonce-of (o .«recip_nonce») n (some-some (sym (part-there bytes (m .header .«recip_nonce») (o .«recip_nonce» .bytes) (c .recipNonce h)) ∙ e))
 
-  status-by : ((m .body .entry .«has_status» ≡ true) × (m .body .entry .status ≡ o .status)) ⊎ ((m .body .kind ≡ 24) × (m .body .entry .«has_status» ≡ false) × (o .status ≡ 0)) → o .status ≡ statusOr0 (f .status)
+  status-by : ((m .body .entry .«has_status» ≡ true) × (m .body .entry .status ≡ o .contents .status)) ⊎ ((m .body .kind ≡ 24) × (m .body .entry .«has_status» ≡ false) × (o .contents .status ≡ 0)) → o .contents .status ≡ statusOr0 (f .status)
   unfolding fieldsOf
   status-by (inl g) = rw (g .0) (sym (g .1))
   status-by (inr g) = rw (g .1) (g .2)
 
-  pub status-read : o .«has_status» ≡ true → f .entries ≡ 1 → o .status ≡ statusOr0 (f .status)
+  pub status-read : o .contents .«has_status» ≡ true → f .entries ≡ 1 → o .contents .status ≡ statusOr0 (f .status)
   unfolding fieldsOf
   status-read h e = status-by (c .status h (inr e))
 
-  pub hash-read : f .kind ≡ 24 → f .entries ≡ 1 → o .hash ≡ f .hash
+  pub hash-read : f .kind ≡ 24 → f .entries ≡ 1 → o .contents .hash ≡ f .hash
   unfolding fieldsOf
-  hash-read k e = let p : o .hash .bytes ≡ f .hash .bytes = sym (c .hash k e) in λ i. record { bytes = p i }
+  hash-read k e = let p : o .contents .hash .bytes ≡ f .hash .bytes = sym (c .hash k e) in λ i. record { bytes = p i }

@@ -91,7 +91,7 @@ module _ (w : World) (v : Inv w) (f : Fair (w .past)) where
       let s : Stands (w .enrolments) b o = v .stands b o i c in
       let p : s .place ≡ k = v .distinct (s .place) k (s .held) x (s .holds) h (s .id ∙ e) in
       let q : s .held ≡ x = same-place (s .place) k (s .held) x (s .holds) h p in
-      true-false (sym (s .state) ∙ ap (λ (y : BoardEnrolment). standsFor (y .enrolment .state) (o .status)) q ∙ n (o .status))
+      true-false (sym (s .state) ∙ ap (λ (y : BoardEnrolment). standsFor (y .enrolment .state) (o .contents .status)) q ∙ n (o .contents .status))
 
   failed : (k : ℕ) (x : BoardEnrolment) → Holds w k x → x .enrolment .state ≡ Failed → Some (λ e. SaysConfirmed (e .table) (x .enrolment .id)) (w .past) → ⊥
   failed k x h e s = let a : Accepted (w .past) (x .enrolment .id) = v .said (x .enrolment .id) s in none-sent k x h (λ s. rw e) (a .board) (a .message) (a .issued) (a .kind) (a .id)

@@ -9,7 +9,7 @@ use native.Mathlib.Decide.{ℕ-discrete}
 use lib.ListN.{length, getElem?, set}
 use Rattle.protocol.specs.declared.Board.{Board}
 use Rattle.protocol.specs.declared.TransactionId.{TransactionId}
-use Rattle.protocol.specs.declared.Nonce.{Nonce}
+use Rattle.protocol.specs.declared.FreshNonce.{FreshNonce}
 use Rattle.protocol.specs.declared.Outgoing.{Outgoing}
 use Rattle.protocol.specs.Message.{certConf, isStartingKind}
 use Rattle.protocol.specs.Outgoing.{requestOut}
@@ -25,7 +25,7 @@ kept-same x = record { board = refl; id = refl; stands = λ s h. (refl, refl, h)
 
 -- the certConf p sent now is that of the record y
 abbrev pub SentNow : Board → Option Outgoing → BoardEnrolment → ℕ → Type 0
-SentNow b o y s = (y .board ≡ b) × (p : Outgoing) × (o ≡ some p) × (p .kind ≡ certConf) × (p .id ≡ y .enrolment .id) × (p .«sender_nonce» ≡ y .enrolment .last) × (p .hash ≡ y .enrolment .hash) × (p .status ≡ s)
+SentNow b o y s = (y .board ≡ b) × (p : Outgoing) × (o ≡ some p) × (p .kind ≡ certConf) × (p .id ≡ y .enrolment .id) × (p .«sender_nonce» ≡ y .enrolment .last) × (p .contents .hash ≡ y .enrolment .hash) × (p .contents .status ≡ s)
 
 module _ (w : World) (v : Inv w) where
   -- nothing changes
@@ -46,7 +46,7 @@ module _ (w : World) (v : Inv w) where
       (o : Option Outgoing)
       (here : At (w .enrolments) k x)
       (kept : Kept x y)
-      (stands : (p : Outgoing) → o ≡ some p → p .kind ≡ certConf → (y .enrolment .id ≡ p .id) × (y .enrolment .last ≡ p .«sender_nonce») × (y .enrolment .hash ≡ p .hash) × (standsFor (y .enrolment .state) (p .status) ≡ true) × (p .«has_status» ≡ true) × (p .«has_recip_nonce» ≡ true))
+      (stands : (p : Outgoing) → o ≡ some p → p .kind ≡ certConf → (y .enrolment .id ≡ p .id) × (y .enrolment .last ≡ p .«sender_nonce») × (y .enrolment .hash ≡ p .contents .hash) × (standsFor (y .enrolment .state) (p .contents .status) ≡ true) × (p .contents .«has_status» ≡ true) × (p .«has_recip_nonce» ≡ true))
       (sent : (s : ℕ) → hasConfirmed (y .enrolment .state) s ≡ true → SentNow (x .board) o y s ⊎ Sent (w .past) y s)
       (answered : isAnswered (y .enrolment .state) ≡ true → Answered (w .past) y)
     where
@@ -65,7 +65,7 @@ module _ (w : World) (v : Inv w) where
       one-stays j z h (yes e) = (y, ap (getElem? l′) (sym e) ∙ there, subst (λ (u : BoardEnrolment). Kept u y) (some-some (sym here ∙ ap (getElem? (w .enrolments)) e ∙ h)) kept)
       one-stays j z h (no d) = (z, at-set-other (w .enrolments) k j y d ∙ h, kept-same z)
 
-      one-stands : (p : Outgoing) → (y .enrolment .id ≡ p .id) × (y .enrolment .last ≡ p .«sender_nonce») × (y .enrolment .hash ≡ p .hash) × (standsFor (y .enrolment .state) (p .status) ≡ true) × (p .«has_status» ≡ true) × (p .«has_recip_nonce» ≡ true) → Stands l′ (x .board) p
+      one-stands : (p : Outgoing) → (y .enrolment .id ≡ p .id) × (y .enrolment .last ≡ p .«sender_nonce») × (y .enrolment .hash ≡ p .contents .hash) × (standsFor (y .enrolment .state) (p .contents .status) ≡ true) × (p .contents .«has_status» ≡ true) × (p .«has_recip_nonce» ≡ true) → Stands l′ (x .board) p
       one-stands p t = record { place = k; held = y; holds = there; board = kept .board; id = t .0; last = t .1; hash = t .2; state = t .3; rated = t .4; answers = t .5 }
 
       one-sent : (j : ℕ) (z : BoardEnrolment) (s : ℕ) → hasConfirmed (z .enrolment .state) s ≡ true → ((k ≡ j) × (y ≡ z)) ⊎ At (w .enrolments) j z → SentNow (x .board) o z s ⊎ Sent (w .past) z s
@@ -93,7 +93,7 @@ module _ (w : World) (v : Inv w) where
 
 -- ## A start
 
-module _ (w : World) (v : Inv w) (b : Board) (k : ℕ) (i : TransactionId) (n : Nonce) where
+module _ (w : World) (v : Inv w) (b : Board) (k : ℕ) (i : TransactionId) (n : FreshNonce) where
   abbrev pub new : BoardEnrolment
   new = record { board = b; enrolment = startedEnrolment k i n }
 

@@ -11,7 +11,7 @@ use Rattle.message.specs.Read.{readingOf}
 use Rattle.message.specs.declared.Reading.{Reading}
 use Rattle.message.specs.declared.Reading.the-variants as read
 use Rattle.protocol.specs.declared.TransactionId.{TransactionId}
-use Rattle.protocol.specs.declared.Nonce.{Nonce}
+use Rattle.protocol.specs.declared.FreshNonce.{FreshNonce}
 use Rattle.protocol.specs.declared.EndEntityInput.{EndEntityInput}
 use Rattle.protocol.specs.declared.EnrolmentState.{EnrolmentState}
 use Rattle.protocol.specs.declared.Enrolment.{Enrolment}
@@ -107,18 +107,18 @@ module _ (x : Enrolment) where
 -- ## A start
 
 start-at :
-    (k : ℕ) (i : TransactionId) (n : Nonce) (t : Bool) → (m : ℕ) (b : FailureInfo) →
+    (k : ℕ) (i : TransactionId) (n : FreshNonce) (t : Bool) → (m : ℕ) (b : FailureInfo) →
     (cond t (record { outcome = outcome.Done; fault = noFault; sends = true; outgoing = requestOut k i n; enrolment = startedEnrolment k i n }) (enrolmentRefused 32 noEnrolment)) .outcome ≡ outcome.Refused m b →
     (m ≡ 32) × (t ≡ false)
 start-at k i n true m b e = done-refused m b e
 start-at k i n false m b e = (sym (refused-number 32 m _ b e), refl)
 
 -- a start is refused by 32, and just for another kind than the four
-pub start-promise : (k : ℕ) (i : TransactionId) (n : Nonce) → (m : ℕ) (b : FailureInfo) → endEntityStart k i n .outcome ≡ outcome.Refused m b → (m ≡ 32) × (isStartingKind k ≡ false)
+pub start-promise : (k : ℕ) (i : TransactionId) (n : FreshNonce) → (m : ℕ) (b : FailureInfo) → endEntityStart k i n .outcome ≡ outcome.Refused m b → (m ≡ 32) × (isStartingKind k ≡ false)
 unfolding endEntityStart
 start-promise k i n m b e = start-at k i n (isStartingKind k) m b e
 
-pub start-never : (k : ℕ) (i : TransactionId) (n : Nonce) → endEntityStart k i n .outcome ≡ outcome.Again → ⊥
+pub start-never : (k : ℕ) (i : TransactionId) (n : FreshNonce) → endEntityStart k i n .outcome ≡ outcome.Again → ⊥
 unfolding endEntityStart
 start-never k i n = cases (λ (a : EndEntityAnswer). a .outcome ≡ outcome.Again → ⊥) (isStartingKind k) _ _ (λ _. done-again) (λ _. refused-again 32 _)
 
@@ -145,7 +145,7 @@ not-request : (k : ℕ) → (IsRequest k → ⊥) → (b : Bool) → isEnrolment
 not-request k d true e = absurd (d (is-request k e))
 not-request k d false e = e
 
-pub start-rule : (k : ℕ) (i : TransactionId) (n : Nonce) → StartRule k i n
+pub start-rule : (k : ℕ) (i : TransactionId) (n : FreshNonce) → StartRule k i n
 unfolding endEntityStart bitOf
 start-rule k i n =
     record {

@@ -12,6 +12,7 @@ use Rattle.grammar.specs.declared.Message.{Message}
 use Rattle.message.specs.declared.Reading.{Reading}
 use Rattle.message.specs.declared.Reading.the-variants as read
 use Rattle.protocol.specs.declared.Nonce.{Nonce}
+use Rattle.protocol.specs.declared.FreshNonce.{FreshNonce}
 use Rattle.protocol.specs.declared.Hash.{Hash}
 use Rattle.protocol.specs.declared.EndEntityInput.{EndEntityInput}
 use Rattle.protocol.specs.declared.EnrolmentState.{EnrolmentState}
@@ -98,21 +99,21 @@ module _ (w : World) (v : Inv w) (k : ℕ) (x : BoardEnrolment) (here : At (w .e
   fails : isWaiting (x .enrolment .state) ≡ true → EnrolmentStep (enrolmentMoved (inState (x .enrolment) Failed))
   fails u = moved Failed (λ s h. absurd (waiting-stands (x .enrolment .state) s u h)) (λ s h. true-false (sym h)) (λ e. true-false (sym e))
 
-  module _ (accept : Bool) (h : Hash) (n a : Nonce) where
+  module _ (accept : Bool) (h : Hash) (n : FreshNonce) (a : Nonce) where
     abbrev settledOn : BoardEnrolment
     settledOn = record { board = x .board; enrolment = confirmedEnrolment (x .enrolment) accept h n a }
 
     abbrev conf : Outgoing
     conf = certConfOut (x .enrolment .id) n a (decision accept) h
 
-    conf-stands : (p : Outgoing) → some conf ≡ some p → (settledOn .enrolment .id ≡ p .id) × (settledOn .enrolment .last ≡ p .«sender_nonce») × (settledOn .enrolment .hash ≡ p .hash) × (standsFor (settledOn .enrolment .state) (p .status) ≡ true) × (p .«has_status» ≡ true) × (p .«has_recip_nonce» ≡ true)
+    conf-stands : (p : Outgoing) → some conf ≡ some p → (settledOn .enrolment .id ≡ p .id) × (settledOn .enrolment .last ≡ p .«sender_nonce») × (settledOn .enrolment .hash ≡ p .contents .hash) × (standsFor (settledOn .enrolment .state) (p .contents .status) ≡ true) × (p .contents .«has_status» ≡ true) × (p .«has_recip_nonce» ≡ true)
     conf-stands p e =
         let q : conf ≡ p = some-some e in (
           ap (λ (y : Outgoing). y .id) q,
           ap (λ (y : Outgoing). y .«sender_nonce») q,
-          ap (λ (y : Outgoing). y .hash) q,
-          ap (λ (y : Outgoing). standsFor (decided accept) (y .status)) (sym q) ∙ decided-stands accept,
-          sym (ap (λ (y : Outgoing). y .«has_status») q),
+          ap (λ (y : Outgoing). y .contents .hash) q,
+          ap (λ (y : Outgoing). standsFor (decided accept) (y .contents .status)) (sym q) ∙ decided-stands accept,
+          sym (ap (λ (y : Outgoing). y .contents .«has_status») q),
           sym (ap (λ (y : Outgoing). y .«has_recip_nonce») q),
         )
 

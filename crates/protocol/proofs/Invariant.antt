@@ -33,9 +33,9 @@ pub record Stands (l : List BoardEnrolment) (b : Board) (o : Outgoing) : Type 0 
   pub board : held .board ≡ b
   pub id : held .enrolment .id ≡ o .id
   pub last : held .enrolment .last ≡ o .«sender_nonce»
-  pub hash : held .enrolment .hash ≡ o .hash
-  pub state : standsFor (held .enrolment .state) (o .status) ≡ true
-  pub rated : o .«has_status» ≡ true
+  pub hash : held .enrolment .hash ≡ o .contents .hash
+  pub state : standsFor (held .enrolment .state) (o .contents .status) ≡ true
+  pub rated : o .contents .«has_status» ≡ true
   pub answers : o .«has_recip_nonce» ≡ true
 
 -- the certConf of status s that the enrolment sent
@@ -45,8 +45,8 @@ pub record Sent (past : List Event) (x : BoardEnrolment) (s : ℕ) : Type 0 wher
   pub kind : message .kind ≡ certConf
   pub id : message .id ≡ x .enrolment .id
   pub sender : message .«sender_nonce» ≡ x .enrolment .last
-  pub hash : message .hash ≡ x .enrolment .hash
-  pub status : message .status ≡ s
+  pub hash : message .contents .hash ≡ x .enrolment .hash
+  pub status : message .contents .status ≡ s
 
 -- the pkiconf that the enrolment had
 pub record Answered (past : List Event) (x : BoardEnrolment) : Type 0 where
@@ -61,8 +61,8 @@ pub record Settled (b : TransactionTable) (o : Outgoing) : Type 0 where
   pub found : Transaction
   pub holds : lookup (b .transactions) (o .id) ≡ some found
   pub sent : found .sent ≡ o .«recip_nonce»
-  pub hash : found .hash ≡ o .hash
-  pub state : settledBy (found .state) (o .status) ≡ true
+  pub hash : found .hash ≡ o .contents .hash
+  pub state : settledBy (found .state) (o .contents .status) ≡ true
 
 -- the certConf that the pkiconf p answered
 pub record Acknowledged (past : List Event) (p : Outgoing) : Type 0 where
@@ -86,8 +86,8 @@ pub record SettledBy (past : List Event) (i : TransactionId) (r : Transaction) (
   pub issued : Issued (OneBoard (r .board)) message past
   pub kind : message .kind ≡ certConf
   pub id : message .id ≡ i
-  pub hash : message .hash ≡ r .hash
-  pub status : message .status ≡ s
+  pub hash : message .contents .hash ≡ r .hash
+  pub status : message .contents .status ≡ s
 
 -- some board sent a certConf of status 0 for the id
 pub record Accepted (past : List Event) (i : TransactionId) : Type 0 where
@@ -96,7 +96,7 @@ pub record Accepted (past : List Event) (i : TransactionId) : Type 0 where
   pub issued : Issued (OneBoard board) message past
   pub kind : message .kind ≡ certConf
   pub id : message .id ≡ i
-  pub status : message .status ≡ 0
+  pub status : message .contents .status ≡ 0
 
 -- ## The invariant
 
@@ -151,7 +151,7 @@ pub record EndEntityStep (past : List Event) (l l′ : List BoardEnrolment) (b :
   -- a certConf sent now, or before
   pub sent :
       (k : ℕ) (y : BoardEnrolment) (s : ℕ) → At l′ k y → hasConfirmed (y .enrolment .state) s ≡ true →
-      ((y .board ≡ b) × (p : Outgoing) × (o ≡ some p) × (p .kind ≡ certConf) × (p .id ≡ y .enrolment .id) × (p .«sender_nonce» ≡ y .enrolment .last) × (p .hash ≡ y .enrolment .hash) × (p .status ≡ s)) ⊎ Sent past y s
+      ((y .board ≡ b) × (p : Outgoing) × (o ≡ some p) × (p .kind ≡ certConf) × (p .id ≡ y .enrolment .id) × (p .«sender_nonce» ≡ y .enrolment .last) × (p .contents .hash ≡ y .enrolment .hash) × (p .contents .status ≡ s)) ⊎ Sent past y s
   -- a pkiconf that the registrar issued
   pub answered : (k : ℕ) (y : BoardEnrolment) → At l′ k y → isAnswered (y .enrolment .state) ≡ true → Answered past y
   -- a record was there, or is the last one and has the id drawn

@@ -82,7 +82,7 @@ module _ (w : World) (c : Call) (o : Option Outgoing) (cl : Option TransactionId
       (n : Acknowledged (e ∷ w .past) p) × (ClosedSince (n .message .id) (n .message .«recip_nonce») (e ∷ w .past) ⊎ Settled b′ (n .message))
   acknowledges-old p (n, inl h) = (acknowledged-more e n, inl (inr h))
   acknowledges-old p (n, inr s) =
-      (acknowledged-more e n, carried (n .message) s (d .stays (n .message .id) (s .found) (n .message .status) (s .holds) (s .state)) (v .responded (n .message .id) (s .found) (s .holds) (settled-sent (s .found .state) (n .message .status) (s .state))))
+      (acknowledged-more e n, carried (n .message) s (d .stays (n .message .id) (s .found) (n .message .contents .status) (s .holds) (s .state)) (v .responded (n .message .id) (s .found) (s .holds) (settled-sent (s .found .state) (n .message .contents .status) (s .state))))
 
   acknowledges-new : (p : Outgoing) → (n : Acknowledged (w .past) p) × Settled b′ (n .message) → (n : Acknowledged (e ∷ w .past) p) × (ClosedSince (n .message .id) (n .message .«recip_nonce») (e ∷ w .past) ⊎ Settled b′ (n .message))
   acknowledges-new p (n, s) = (acknowledged-more e n, inr s)
@@ -180,7 +180,7 @@ module _
 
     stands-old : (b₂ : Board) (q : Outgoing) (s : Stands (w .enrolments) b₂ q) → (y : BoardEnrolment) × At l′ (s .place) y × Kept (s .held) y → Stands l′ b₂ q
     stands-old b₂ q s (y, h, k) =
-        let t : (y .enrolment .last ≡ s .held .enrolment .last) × (y .enrolment .hash ≡ s .held .enrolment .hash) × (standsFor (y .enrolment .state) (q .status) ≡ true) = k .stands (q .status) (s .state) in
+        let t : (y .enrolment .last ≡ s .held .enrolment .last) × (y .enrolment .hash ≡ s .held .enrolment .hash) × (standsFor (y .enrolment .state) (q .contents .status) ≡ true) = k .stands (q .contents .status) (s .state) in
         record { place = s .place; held = y; holds = h; board = k .board ∙ s .board; id = k .id ∙ s .id; last = t .0 ∙ s .last; hash = t .1 ∙ s .hash; state = t .2; rated = s .rated; answers = s .answers }
 
     stands : (b₂ : Board) (q : Outgoing) → Issued (OneBoard b₂) q (e₂ ∷ w .past) → q .kind ≡ certConf → Stands l′ b₂ q
@@ -189,7 +189,7 @@ module _
 
     sent-cases :
         (y : BoardEnrolment) (s : ℕ) →
-        ((y .board ≡ b) × (p : Outgoing) × (o ≡ some p) × (p .kind ≡ certConf) × (p .id ≡ y .enrolment .id) × (p .«sender_nonce» ≡ y .enrolment .last) × (p .hash ≡ y .enrolment .hash) × (p .status ≡ s)) ⊎ Sent (w .past) y s →
+        ((y .board ≡ b) × (p : Outgoing) × (o ≡ some p) × (p .kind ≡ certConf) × (p .id ≡ y .enrolment .id) × (p .«sender_nonce» ≡ y .enrolment .last) × (p .contents .hash ≡ y .enrolment .hash) × (p .contents .status ≡ s)) ⊎ Sent (w .past) y s →
         Sent (e₂ ∷ w .past) y s
     sent-cases y s (inl g) =
         record { message = g .1; issued = inl (ap OneBoard (sym (g .0)), g .2); kind = g .3; id = g .4; sender = g .5; hash = g .6; status = g .7 }

@@ -14,6 +14,7 @@ use Rattle.message.specs.declared.Reading.the-variants as read
 use Rattle.protocol.specs.declared.Board.{Board}
 use Rattle.protocol.specs.declared.TransactionId.{TransactionId}
 use Rattle.protocol.specs.declared.Nonce.{Nonce}
+use Rattle.protocol.specs.declared.FreshNonce.{FreshNonce}
 use Rattle.protocol.specs.declared.Verdict.{Verdict}
 use Rattle.protocol.specs.declared.RegistrarInput.{RegistrarInput}
 use Rattle.protocol.specs.declared.Transaction.{Transaction}
@@ -46,8 +47,8 @@ pub record Confirms (past : List Event) (r : Transaction) (m : Fields) (o : Outg
   pub id : o .id ≡ asId (m .id)
   pub sender : o .«sender_nonce» ≡ asNonce (m .senderNonce)
   pub recip : o .«recip_nonce» ≡ r .sent
-  pub hash : o .hash ≡ r .hash
-  pub status : o .status ≡ statusOr0 (m .status)
+  pub hash : o .contents .hash ≡ r .hash
+  pub status : o .contents .status ≡ statusOr0 (m .status)
   pub known : (statusOr0 (m .status) ≡ 0) ⊎ (statusOr0 (m .status) ≡ 2)
   pub takes : isGranted (r .state) ≡ false → settledBy (r .state) (statusOr0 (m .status)) ≡ true
 
@@ -87,7 +88,7 @@ module _ (w : World) (v : Inv w) (bytes : List ℕ) (m : Message) where
   confirms-with r Bad e conf q = true-false (sym (names-it (recs w v) r Bad f e conf))
   confirms-with r (Good a) e conf (o, q, c) = (o, confirms-by r a e conf o q c)
 
-module _ (w : World) (v : Inv w) (m : Fields) (n : Nonce) where
+module _ (w : World) (v : Inv w) (m : Fields) (n : FreshNonce) where
   abbrev i : TransactionId
   i = asId (m .id)
 
@@ -170,7 +171,7 @@ module _ (w : World) (v : Inv w) (m : Fields) (n : Nonce) where
 
 -- ## A request
 
-module _ (w : World) (v : Inv w) (m : Fields) (n : Nonce) where
+module _ (w : World) (v : Inv w) (m : Fields) (n : FreshNonce) where
   opens : (vd : Verdict) → lookup (recs w v) (asId (m .id)) ≡ none → hasFreeSlot (recs w v) ≡ true → StepOf w v (open-still w v) (opened (w .table) vd m)
   opens vd h room =
       let x : Transaction = openedTransaction vd m in
@@ -195,7 +196,7 @@ module _ (w : World) (v : Inv w) (bytes : List ℕ) (m : Message) (d : Registrar
   abbrev fields : Fields
   fields = fieldsOf bytes m
 
-  error-quiet : (t : Bool) (i : TransactionId) (n a : Nonce) (b : FailureInfo) → Quiet (sentBy t (cond t (errorOut i n a b) silent))
+  error-quiet : (t : Bool) (i : TransactionId) (n : FreshNonce) (a : Nonce) (b : FailureInfo) → Quiet (sentBy t (cond t (errorOut i n a b) silent))
   error-quiet true i n a b p e k = let z : _≡_ {A = ℕ} 23 19 = ap (λ (y : Outgoing). y .kind) (some-some e) ∙ k in omega arith
   error-quiet false i n a b p e k = none-some e
 

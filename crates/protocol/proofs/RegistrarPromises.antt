@@ -13,6 +13,7 @@ use Rattle.message.specs.declared.Reading.{Reading}
 use Rattle.message.specs.declared.Reading.the-variants as read
 use Rattle.protocol.specs.declared.TransactionId.{TransactionId}
 use Rattle.protocol.specs.declared.Nonce.{Nonce}
+use Rattle.protocol.specs.declared.FreshNonce.{FreshNonce}
 use Rattle.protocol.specs.declared.Hash.{Hash}
 use Rattle.protocol.specs.declared.RegistrarInput.{RegistrarInput}
 use Rattle.protocol.specs.declared.Transaction.{Transaction}
@@ -22,7 +23,7 @@ use Rattle.protocol.specs.declared.Outgoing.{Outgoing}
 use Rattle.protocol.specs.declared.RegistrarAnswer.{RegistrarAnswer}
 use Rattle.protocol.specs.declared.Outcome.the-variants as outcome
 use Rattle.protocol.specs.declared.TransactionState.the-variants as at-registrar
-use Rattle.protocol.specs.Bytes.{asId, asNonce}
+use Rattle.protocol.specs.Bytes.{asId, asNonce, nonceFrom}
 use Rattle.protocol.specs.Message.{Fields, statusOr0, fieldsOf}
 use Rattle.protocol.specs.Table.{isFree, freeTransaction, lookup}
 use Rattle.protocol.specs.States.{isAsked, isHashed, hasHash, isGranted, mayIssue, mayRefuse, mayLapse, mayClose, settledState}
@@ -124,19 +125,19 @@ module _ (t : TransactionTable) (i : TransactionId) where
   own-id : (r : Transaction) → lookup rs i ≡ some r → r .id ≡ i
   own-id r h = isFor-id i r (found rs i r h)
 
-  pub issue-promise : (n : Nonce) (h : Hash) → Promise (registrarIssue t i n h)
+  pub issue-promise : (n : FreshNonce) (h : Hash) → Promise (registrarIssue t i n h)
   unfolding registrarIssue
   issue-promise n h =
-      host mayIssue _ (lookup rs i) (λ r e q. doing hostNumbers t _ _ _ _ (replacing t i r (responded r at-registrar.Granted n h) e (λ _. own-id r e) (λ _. full _ refl refl refl)))
+      host mayIssue _ (lookup rs i) (λ r e q. doing hostNumbers t _ _ _ _ (replacing t i r (responded r at-registrar.Granted (nonceFrom n) h) e (λ _. own-id r e) (λ _. full _ refl refl refl)))
 
   -- at Asked no hash is set, so none is set at Refused
   refused-unset : (r : Transaction) (n : Nonce) → isAsked (r .state) ≡ true → UnsetZero r → UnsetZero (responded r at-registrar.Refused n (r .hash))
   refused-unset r n q u = record { free = λ e. true-false (sym (ap isFree e)); asked = λ e. true-false (sym (ap isAsked e)); refused = λ _. u .asked (is-asked (r .state) q) .1 }
 
-  pub refuse-promise : (n : Nonce) → Promise (registrarRefuse t i n)
+  pub refuse-promise : (n : FreshNonce) → Promise (registrarRefuse t i n)
   unfolding registrarRefuse
   refuse-promise n =
-      host mayRefuse _ (lookup rs i) (λ r e q. doing hostNumbers t _ _ _ _ (replacing t i r (responded r at-registrar.Refused n (r .hash)) e (λ _. own-id r e) (refused-unset r n q)))
+      host mayRefuse _ (lookup rs i) (λ r e q. doing hostNumbers t _ _ _ _ (replacing t i r (responded r at-registrar.Refused (nonceFrom n) (r .hash)) e (λ _. own-id r e) (refused-unset r (nonceFrom n) q)))
 
   pub lapse-promise : Promise (registrarLapse t i)
   unfolding registrarLapse

@@ -8,12 +8,14 @@ use mathlib.Core.Logic.{_⊎_, inl, inr}
 use native.Mathlib.Omega.{arith}
 use Rattle.protocol.specs.declared.TransactionId.{TransactionId}
 use Rattle.protocol.specs.declared.Nonce.{Nonce}
+use Rattle.protocol.specs.declared.FreshNonce.{FreshNonce}
 use Rattle.protocol.specs.declared.Hash.{Hash}
 use Rattle.protocol.specs.declared.TransactionState.{TransactionState}
 use Rattle.protocol.specs.declared.Transaction.{Transaction}
 use Rattle.protocol.specs.declared.Outgoing.{Outgoing}
 use Rattle.protocol.specs.declared.RegistrarAnswer.{RegistrarAnswer}
 use Rattle.protocol.specs.declared.TransactionState.the-variants.{Granted, Refused, Lapsed}
+use Rattle.protocol.specs.Bytes.{nonceFrom}
 use Rattle.protocol.specs.Message.{pkiConf, responseTo}
 use Rattle.protocol.specs.Outgoing.{responseOut}
 use Rattle.protocol.specs.Table.{lookup, replace, isFree, freeTransaction}
@@ -76,18 +78,18 @@ module _ (w : World) (v : Inv w) where
   pub idle : (k : ℕ) → StepOf open-still (refusedQuietly k (w .table))
   idle k = registrar-idle w v none quiet-none
 
-  response-quiet : (k : ℕ) (i : TransactionId) (n a : Nonce) (s : ℕ) → (k ≡ pkiConf → ⊥) → Quiet (some (responseOut k i n a s))
+  response-quiet : (k : ℕ) (i : TransactionId) (n : FreshNonce) (a : Nonce) (s : ℕ) → (k ≡ pkiConf → ⊥) → Quiet (some (responseOut k i n a s))
   response-quiet k i n a s d p e q = d (ap (λ (y : Outgoing). y .kind) (some-some e) ∙ q)
 
   responds :
-      (i : TransactionId) (r : Transaction) (t : TransactionState) (status : ℕ) (n : Nonce) (h : Hash) → lookup recs i ≡ some r →
+      (i : TransactionId) (r : Transaction) (t : TransactionState) (status : ℕ) (n : FreshNonce) (h : Hash) → lookup recs i ≡ some r →
       isAsked (r .state) ≡ true → isFree t ≡ false → ((s : ℕ) → settledBy t s ≡ true → ⊥) →
       StepOf open-still (respond (w .table) i r t status n h)
   responds i r t status n h e a live unsettled =
       replaces
       i
       r
-      (responded r t n h)
+      (responded r t (nonceFrom n) h)
       (some (responseOut (responseTo (r .kind)) i n (r .taken) status))
       e
       live
@@ -97,7 +99,7 @@ module _ (w : World) (v : Inv w) where
       (λ _. inl (responseOut (responseTo (r .kind)) i n (r .taken) status, refl, refl))
       (λ s q. absurd (unsettled s q))
 
-  pub issue-step : (i : TransactionId) (n : Nonce) (h : Hash) → StepOf open-still (registrarIssue (w .table) i n h)
+  pub issue-step : (i : TransactionId) (n : FreshNonce) (h : Hash) → StepOf open-still (registrarIssue (w .table) i n h)
   unfolding registrarIssue
   issue-step i n h =
       host
@@ -108,7 +110,7 @@ module _ (w : World) (v : Inv w) where
       idle
       (λ r e t. responds i r Granted 0 n h e t refl (λ s q. true-false (sym q)))
 
-  pub refuse-step : (i : TransactionId) (n : Nonce) → StepOf open-still (registrarRefuse (w .table) i n)
+  pub refuse-step : (i : TransactionId) (n : FreshNonce) → StepOf open-still (registrarRefuse (w .table) i n)
   unfolding registrarRefuse
   refuse-step i n =
       host

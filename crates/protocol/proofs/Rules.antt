@@ -12,6 +12,7 @@ use Rattle.grammar.specs.declared.Message.{Message}
 use Rattle.message.specs.declared.ReadFault.{ReadFault}
 use Rattle.protocol.specs.declared.TransactionId.{TransactionId}
 use Rattle.protocol.specs.declared.Nonce.{Nonce}
+use Rattle.protocol.specs.declared.FreshNonce.{FreshNonce}
 use Rattle.protocol.specs.declared.RegistrarInput.{RegistrarInput}
 use Rattle.protocol.specs.declared.EndEntityInput.{EndEntityInput}
 use Rattle.protocol.specs.declared.TransactionState.{TransactionState}
@@ -77,7 +78,7 @@ host-rules t i =
 
 -- ## What a refused message sends
 
-sends-at : (k : ℕ) (i : TransactionId) (n a : Nonce) (c : FailureInfo) (t : Bool) → leb 6 k ≡ t → (j : ℕ) (b : FailureInfo) → outcome.Refused k c ≡ outcome.Refused j b → 6 ≤ j → (t ≡ true) × (cond t (errorOut i n a c) silent ≡ errorMessage i n a b)
+sends-at : (k : ℕ) (i : TransactionId) (n : FreshNonce) (a : Nonce) (c : FailureInfo) (t : Bool) → leb 6 k ≡ t → (j : ℕ) (b : FailureInfo) → outcome.Refused k c ≡ outcome.Refused j b → 6 ≤ j → (t ≡ true) × (cond t (errorOut i n a c) silent ≡ errorMessage i n a b)
 sends-at k i n a c true h j b e l = (refl, ap (errorMessage i n a) (refused-bit k j c b e))
 sends-at k i n a c false h j b e l = true-false (sym (T→true (leb 6 k) (le→leb 6 k (subst (λ (z : ℕ). 6 ≤ z) (sym (refused-number k j c b e)) l))) ∙ h)
 

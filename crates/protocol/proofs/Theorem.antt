@@ -7,7 +7,7 @@ use mathlib.Core.Path.{_≡_, refl, sym, _∙_, subst}
 use lib.ListN.{getElem?, set}
 use Rattle.protocol.specs.declared.Board.{Board}
 use Rattle.protocol.specs.declared.TransactionId.{TransactionId}
-use Rattle.protocol.specs.declared.Nonce.{Nonce}
+use Rattle.protocol.specs.declared.FreshNonce.{FreshNonce}
 use Rattle.protocol.specs.declared.Enrolment.{Enrolment}
 use Rattle.protocol.specs.declared.RegistrarAnswer.{RegistrarAnswer}
 use Rattle.protocol.specs.declared.EndEntityAnswer.{EndEntityAnswer}
@@ -77,10 +77,10 @@ fair-after (c ∷ cs) w f = fair-step w c (fair-after cs (step w c) f)
 
 -- ## A call leaves the invariant standing
 
-abbrev did : World → Board → ℕ → TransactionId → Nonce → EndEntityAnswer → World
+abbrev did : World → Board → ℕ → TransactionId → FreshNonce → EndEntityAnswer → World
 did w b k i n a = startDid w (Start b k i n) b a (unlessRefused (a .outcome) i)
 
-start-at : (w : World) (b : Board) (k : ℕ) (i : TransactionId) (n : Nonce) → Inv w → (t : Bool) → isStartingKind k ≡ t
+start-at : (w : World) (b : Board) (k : ℕ) (i : TransactionId) (n : FreshNonce) → Inv w → (t : Bool) → isStartingKind k ≡ t
     → (let a : EndEntityAnswer = cond t (record { outcome = Done; fault = noFault; sends = true; outgoing = requestOut k i n; enrolment = startedEnrolment k i n }) (enrolmentRefused 32 noEnrolment) in Fair ((did w b k i n a) .past) → Inv (did w b k i n a))
 start-at w b k i n v true o f = board-preserves w (Start b k i n) b (some (requestOut k i n)) (some i) (forms.more w v b k i n) v (f .0 .id) (forms.start-step w v b k i n o)
 start-at w b k i n v false o f = board-preserves w (Start b k i n) b none none (w .enrolments) v (f .0 .id) (forms.board-none w v b)

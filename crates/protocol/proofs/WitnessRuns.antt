@@ -99,8 +99,8 @@ pub record CarriesFields (f : Fields) (o : Outgoing) : Type 0 where
   pub id : f .id ≡ some (o .id .bytes)
   pub senderNonce : f .senderNonce ≡ some (o .«sender_nonce» .bytes)
   pub recipNonce : f .recipNonce ≡ recipOf (o .«has_recip_nonce») (o .«recip_nonce» .bytes)
-  pub status : o .«has_status» ≡ true → (f .status ≡ some (o .status)) ⊎ ((f .kind ≡ 24) × (f .status ≡ none) × (o .status ≡ 0))
-  pub hash : f .kind ≡ 24 → f .hash .bytes ≡ o .hash .bytes
+  pub status : o .contents .«has_status» ≡ true → (f .status ≡ some (o .contents .status)) ⊎ ((f .kind ≡ 24) × (f .status ≡ none) × (o .contents .status ≡ 0))
+  pub hash : f .kind ≡ 24 → f .hash .bytes ≡ o .contents .hash .bytes
 
 status-some : (b : Bool) (s v : ℕ) → optionalStatus b s ≡ some v → (b ≡ true) × (s ≡ v)
 status-some true s v e = (refl, some-some e)
@@ -125,9 +125,9 @@ module _ (bytes : List ℕ) (f : Fields) (r : ReadsAs bytes f) (o : Outgoing) (c
 
   status-there :
       optionalStatus (m .body .entry .«has_status») (m .body .entry .status) ≡ f .status → m .body .kind ≡ f .kind →
-      (f .status ≡ some (o .status)) ⊎ ((f .kind ≡ 24) × (f .status ≡ none) × (o .status ≡ 0)) →
-      ((m .body .entry .«has_status» ≡ true) × (m .body .entry .status ≡ o .status)) ⊎ ((m .body .kind ≡ 24) × (m .body .entry .«has_status» ≡ false) × (o .status ≡ 0))
-  status-there e k (inl g) = inl (status-some (m .body .entry .«has_status») (m .body .entry .status) (o .status) (e ∙ g))
+      (f .status ≡ some (o .contents .status)) ⊎ ((f .kind ≡ 24) × (f .status ≡ none) × (o .contents .status ≡ 0)) →
+      ((m .body .entry .«has_status» ≡ true) × (m .body .entry .status ≡ o .contents .status)) ⊎ ((m .body .kind ≡ 24) × (m .body .entry .«has_status» ≡ false) × (o .contents .status ≡ 0))
+  status-there e k (inl g) = inl (status-some (m .body .entry .«has_status») (m .body .entry .status) (o .contents .status) (e ∙ g))
   status-there e k (inr g) = inr (k ∙ g .0, status-none (m .body .entry .«has_status») (m .body .entry .status) (e ∙ g .1), g .2)
 
   carries : Carries bytes m o

@@ -7,6 +7,7 @@ use lib.ListN.{replicate}
 use lib.Dec.{eqb}
 use Rattle.protocol.specs.declared.TransactionId.{TransactionId}
 use Rattle.protocol.specs.declared.Nonce.{Nonce}
+use Rattle.protocol.specs.declared.FreshNonce.{FreshNonce}
 use Rattle.protocol.specs.declared.Hash.{Hash}
 
 unfoldable pub sameBytes : List ℕ → List ℕ → Bool
@@ -37,6 +38,10 @@ noNonce = record { bytes = zeros 16 }
 
 abbrev pub noHash : Hash
 noHash = record { bytes = zeros 32 }
+
+-- what the host drew, as it is sent and kept
+abbrev pub nonceFrom : FreshNonce → Nonce
+nonceFrom n = record { bytes = n .bytes }
 
 -- ## Values that may be missing
 

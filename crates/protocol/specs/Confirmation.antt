@@ -5,7 +5,7 @@ use mathlib.Core.Bool.{true, false}
 use mathlib.Core.Option.{some}
 use mathlib.Core.Path.{_≡_}
 use mathlib.Core.Logic.{_⊎_, _≢_}
-use lib.ListN.{length, replicate, take, drop}
+use lib.ListN.{length, take, drop}
 use Rattle.message.specs.Read.{readingOf}
 use Rattle.grammar.specs.declared.Span.{Span}
 use Rattle.grammar.specs.declared.Message.{Message}
@@ -20,14 +20,13 @@ use Rattle.protocol.specs.declared.Outgoing.{Outgoing}
 use Rattle.protocol.specs.declared.Outcome.{Outcome}
 use Rattle.protocol.specs.declared.RegistrarAnswer.{RegistrarAnswer}
 use Rattle.protocol.specs.declared.Outcome.the-variants as outcome
-use Rattle.protocol.specs.declared.FailureInfo.the-variants.{NoBit}
 use Rattle.protocol.specs.declared.TransactionState.the-variants.{Granted, Confirmed, Declined}
 use Rattle.protocol.specs.declared.Verdict.the-variants.{Good}
 use Rattle.protocol.specs.Refusals.{noFault}
 use Rattle.protocol.specs.Table.{lookup}
 use Rattle.protocol.specs.Registrar.{registrarMessage}
 use Rattle.protocol.specs.MessageRules.{IsRefused}
-use Rattle.protocol.specs.Slots.{FirstAt, Becomes, Sends}
+use Rattle.protocol.specs.Slots.{FirstAt, Becomes, Sends, ours, bare}
 
 -- the 16 bytes of a part that is there
 abbrev pub Sixteen : List ℕ → Span → List ℕ → Type 0
@@ -91,13 +90,10 @@ acknowledgement d i n =
     record {
       kind = 19;
       id = i;
-      «sender_nonce» = d .nonce;
+      «sender_nonce» = ours (d .nonce);
       «has_recip_nonce» = true;
       «recip_nonce» = n;
-      «has_status» = false;
-      status = 0;
-      hash = record { bytes = replicate 32 0 };
-      failure = NoBit;
+      contents = bare;
     }
 
 -- the complete answer: the transaction r of this id in its new state, "its senderNonce is kept; order pkiconf"

@@ -9,6 +9,7 @@ use Rattle.message.specs.declared.Reading.{Reading}
 use Rattle.message.specs.declared.Reading.the-variants as read
 use Rattle.protocol.specs.declared.TransactionId.{TransactionId}
 use Rattle.protocol.specs.declared.Nonce.{Nonce}
+use Rattle.protocol.specs.declared.FreshNonce.{FreshNonce}
 use Rattle.protocol.specs.declared.Hash.{Hash}
 use Rattle.protocol.specs.declared.EndEntityInput.{EndEntityInput}
 use Rattle.protocol.specs.declared.EnrolmentState.{EnrolmentState}
@@ -16,7 +17,7 @@ use Rattle.protocol.specs.declared.Enrolment.{Enrolment}
 use Rattle.protocol.specs.declared.EndEntityAnswer.{EndEntityAnswer}
 use Rattle.protocol.specs.declared.EnrolmentState.the-variants.{Asked, Failed}
 use Rattle.protocol.specs.declared.Outcome.the-variants as outcome
-use Rattle.protocol.specs.Bytes.{noNonce, noHash, noId, asNonce}
+use Rattle.protocol.specs.Bytes.{noNonce, noHash, noId, asNonce, nonceFrom}
 use Rattle.protocol.specs.Message.{isStartingKind, Fields, statusOr0, fieldsOf}
 use Rattle.protocol.specs.Outgoing.{silent, requestOut, certConfOut}
 use Rattle.protocol.specs.States.{decided, decision, assured, brokenState, isWaiting, isConfirming}
@@ -43,15 +44,15 @@ inState x s = record { id = x .id; kind = x .kind; last = x .last; taken = x .ta
 -- ## Start
 
 -- "Start gives Asked"
-abbrev pub startedEnrolment : ℕ → TransactionId → Nonce → Enrolment
-startedEnrolment k i n = record { id = i; kind = k; last = n; taken = noNonce; hash = noHash; state = Asked }
+abbrev pub startedEnrolment : ℕ → TransactionId → FreshNonce → Enrolment
+startedEnrolment k i n = record { id = i; kind = k; last = nonceFrom n; taken = noNonce; hash = noHash; state = Asked }
 
 -- what stands in the answer to a refused start: no enrolment, and it takes nothing
 abbrev pub noEnrolment : Enrolment
 noEnrolment = record { id = noId; kind = 0; last = noNonce; taken = noNonce; hash = noHash; state = Failed }
 
 -- 32: "board start, kind not 0, 2, 4 or 7"
-unfoldable pub endEntityStart : ℕ → TransactionId → Nonce → EndEntityAnswer
+unfoldable pub endEntityStart : ℕ → TransactionId → FreshNonce → EndEntityAnswer
 endEntityStart k i n =
     cond (isStartingKind k)
     (record { outcome = outcome.Done; fault = noFault; sends = true; outgoing = requestOut k i n; enrolment = startedEnrolment k i n })
@@ -64,11 +65,11 @@ unfoldable pub afterRefusal : ℕ → Fields → Enrolment → Enrolment
 afterRefusal k m x = x
 
 -- the confirmation is sent: the host's hash is kept, the nonce sent, and the nonce of the response taken
-abbrev pub confirmedEnrolment : Enrolment → Bool → Hash → Nonce → Nonce → Enrolment
-confirmedEnrolment x accept h n a = record { id = x .id; kind = x .kind; last = n; taken = a; hash = h; state = decided accept }
+abbrev pub confirmedEnrolment : Enrolment → Bool → Hash → FreshNonce → Nonce → Enrolment
+confirmedEnrolment x accept h n a = record { id = x .id; kind = x .kind; last = nonceFrom n; taken = a; hash = h; state = decided accept }
 
 -- "0 or 1 gives, by the host's decision, Confirming or Declining, with the host's hash and a certConf order of status 0 or 2"
-abbrev pub confirming : Enrolment → Bool → Hash → Nonce → Nonce → EndEntityAnswer
+abbrev pub confirming : Enrolment → Bool → Hash → FreshNonce → Nonce → EndEntityAnswer
 confirming x accept h n a =
     record { outcome = outcome.Done; fault = noFault; sends = true; outgoing = certConfOut (x .id) n a (decision accept) h; enrolment = confirmedEnrolment x accept h n a }
 

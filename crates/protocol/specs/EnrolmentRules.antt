@@ -10,6 +10,7 @@ use Rattle.grammar.specs.declared.Message.{Message}
 use Rattle.message.specs.declared.Reading.the-variants as read
 use Rattle.protocol.specs.declared.TransactionId.{TransactionId}
 use Rattle.protocol.specs.declared.Nonce.{Nonce}
+use Rattle.protocol.specs.declared.FreshNonce.{FreshNonce}
 use Rattle.protocol.specs.declared.EndEntityInput.{EndEntityInput}
 use Rattle.protocol.specs.declared.EnrolmentState.{EnrolmentState}
 use Rattle.protocol.specs.declared.Enrolment.{Enrolment}
@@ -21,6 +22,7 @@ use Rattle.protocol.specs.Message.{responseTo}
 use Rattle.protocol.specs.Refusals.{noFault}
 use Rattle.protocol.specs.Outgoing.{silent}
 use Rattle.protocol.specs.EndEntity.{endEntityMessage, endEntityTimeOut, endEntityStart}
+use Rattle.protocol.specs.Slots.{ours, bare}
 use Rattle.protocol.specs.Confirmation.{Sixteen}
 use Rattle.protocol.specs.Request.{IsRequest}
 
@@ -73,8 +75,8 @@ certifies x d n s status =
       outcome = outcome.Done;
       fault = noFault;
       sends = true;
-      outgoing = record { kind = 24; id = x .id; «sender_nonce» = d .nonce; «has_recip_nonce» = true; «recip_nonce» = n; «has_status» = true; status = status; hash = d .hash; failure = NoBit };
-      enrolment = record { id = x .id; kind = x .kind; last = d .nonce; taken = n; hash = d .hash; state = s };
+      outgoing = record { kind = 24; id = x .id; «sender_nonce» = ours (d .nonce); «has_recip_nonce» = true; «recip_nonce» = n; contents = record { «has_status» = true; status = status; hash = d .hash; failure = NoBit } };
+      enrolment = record { id = x .id; kind = x .kind; last = ours (d .nonce); taken = n; hash = d .hash; state = s };
     }
 
 pub record EnrolmentRule (x : Enrolment) (d : EndEntityInput) (bytes : List ℕ) (m : Message) : Type 0 where
@@ -98,8 +100,8 @@ pub record TimeOutRule (x : Enrolment) : Type 0 where
   pub else : (x .state ≡ Sure) ⊎ (x .state ≡ Declined) ⊎ (x .state ≡ Failed) ⊎ (x .state ≡ Unsettled) → endEntityTimeOut x ≡ record { outcome = outcome.Refused 31 NoBit; fault = noFault; sends = false; outgoing = silent; enrolment = x }
 
 -- "Start gives Asked", with the request as the message to be sent; 32: "kind not 0, 2, 4 or 7"
-pub record StartRule (k : ℕ) (i : TransactionId) (n : Nonce) : Type 0 where
-  pub asked : IsRequest k → endEntityStart k i n .enrolment ≡ record { id = i; kind = k; last = n; taken = record { bytes = replicate 16 0 }; hash = record { bytes = replicate 32 0 }; state = Asked }
-  pub sent : IsRequest k → endEntityStart k i n .outgoing ≡ record { kind = k; id = i; «sender_nonce» = n; «has_recip_nonce» = false; «recip_nonce» = record { bytes = replicate 16 0 }; «has_status» = false; status = 0; hash = record { bytes = replicate 32 0 }; failure = NoBit }
+pub record StartRule (k : ℕ) (i : TransactionId) (n : FreshNonce) : Type 0 where
+  pub asked : IsRequest k → endEntityStart k i n .enrolment ≡ record { id = i; kind = k; last = ours n; taken = record { bytes = replicate 16 0 }; hash = record { bytes = replicate 32 0 }; state = Asked }
+  pub sent : IsRequest k → endEntityStart k i n .outgoing ≡ record { kind = k; id = i; «sender_nonce» = ours n; «has_recip_nonce» = false; «recip_nonce» = record { bytes = replicate 16 0 }; contents = bare }
   pub done : IsRequest k → (endEntityStart k i n .outcome ≡ outcome.Done) × (endEntityStart k i n .sends ≡ true)
   pub else : (IsRequest k → ⊥) → (endEntityStart k i n .outcome ≡ outcome.Refused 32 NoBit) × (endEntityStart k i n .sends ≡ false)

@@ -7,6 +7,7 @@ use mathlib.Core.Logic.{_⊎_}
 use lib.ListN.{replicate}
 use Rattle.protocol.specs.declared.TransactionId.{TransactionId}
 use Rattle.protocol.specs.declared.Nonce.{Nonce}
+use Rattle.protocol.specs.declared.FreshNonce.{FreshNonce}
 use Rattle.protocol.specs.declared.Hash.{Hash}
 use Rattle.protocol.specs.declared.TransactionState.{TransactionState}
 use Rattle.protocol.specs.declared.Transaction.{Transaction}
@@ -20,7 +21,7 @@ use Rattle.protocol.specs.Message.{responseTo}
 use Rattle.protocol.specs.Refusals.{noFault}
 use Rattle.protocol.specs.Outgoing.{silent}
 use Rattle.protocol.specs.Table.{lookup}
-use Rattle.protocol.specs.Slots.{Becomes, Sends, SendsNothing}
+use Rattle.protocol.specs.Slots.{Becomes, Sends, SendsNothing, ours}
 use Rattle.protocol.specs.Registrar.{registrarIssue, registrarRefuse, registrarLapse, registrarClose}
 
 -- refused by this number, with no bit and nothing to send, and the table as it was
@@ -34,18 +35,15 @@ pub record HostRule (t : TransactionTable) (i : TransactionId) (Allowed : Transa
   pub else : (r : Transaction) → lookup (t .transactions) i ≡ some r → (Allowed (r .state) → ⊥) → a ≡ hostRefusal 31 t
 
 -- ip, cp or kup: the id, the fresh nonce, as recipNonce the last board nonce taken, and the status
-abbrev pub responseSent : ℕ → TransactionId → Nonce → Nonce → ℕ → Outgoing
+abbrev pub responseSent : ℕ → TransactionId → FreshNonce → Nonce → ℕ → Outgoing
 responseSent k i n a s =
     record {
       kind = k;
       id = i;
-      «sender_nonce» = n;
+      «sender_nonce» = ours n;
       «has_recip_nonce» = true;
       «recip_nonce» = a;
-      «has_status» = true;
-      status = s;
-      hash = record { bytes = replicate 32 0 };
-      failure = NoBit;
+      contents = record { «has_status» = true; status = s; hash = record { bytes = replicate 32 0 }; failure = NoBit };
     }
 
 -- the complete answer: the transaction r of this id becomes x, and this is sent
@@ -71,9 +69,9 @@ nothing =
 
 pub record HostRules (t : TransactionTable) (i : TransactionId) : Type 0 where
   -- "issue, Asked to Granted, with hash and nonce, order ip, cp or kup [...] with status 0;"
-  pub issue : (n : Nonce) (h : Hash) → HostRule t i (λ s. s ≡ Asked) (λ r. Answering t i r (record { id = r .id; board = r .board; kind = r .kind; taken = r .taken; sent = n; hash = h; state = Granted }) (responseSent (responseTo (r .kind)) i n (r .taken) 0)) (registrarIssue t i n h)
+  pub issue : (n : FreshNonce) (h : Hash) → HostRule t i (λ s. s ≡ Asked) (λ r. Answering t i r (record { id = r .id; board = r .board; kind = r .kind; taken = r .taken; sent = ours n; hash = h; state = Granted }) (responseSent (responseTo (r .kind)) i n (r .taken) 0)) (registrarIssue t i n h)
   -- "refuse, Asked to Refused, with nonce, the same order with status 2;"
-  pub refuse : (n : Nonce) → HostRule t i (λ s. s ≡ Asked) (λ r. Answering t i r (record { id = r .id; board = r .board; kind = r .kind; taken = r .taken; sent = n; hash = r .hash; state = Refused }) (responseSent (responseTo (r .kind)) i n (r .taken) 2)) (registrarRefuse t i n)
+  pub refuse : (n : FreshNonce) → HostRule t i (λ s. s ≡ Asked) (λ r. Answering t i r (record { id = r .id; board = r .board; kind = r .kind; taken = r .taken; sent = ours n; hash = r .hash; state = Refused }) (responseSent (responseTo (r .kind)) i n (r .taken) 2)) (registrarRefuse t i n)
   -- "lapse, Granted to Lapsed;"
   pub lapse : HostRule t i (λ s. s ≡ Granted) (λ r. Quietly t i r (record { id = r .id; board = r .board; kind = r .kind; taken = r .taken; sent = r .sent; hash = r .hash; state = Lapsed })) (registrarLapse t i)
   -- "close, from Confirmed, Declined, Refused or Lapsed to free, as in the empty book."

@@ -8,6 +8,7 @@ use lib.ListN.{replicate}
 use Rattle.message.specs.declared.ReadFault.{ReadFault}
 use Rattle.protocol.specs.declared.TransactionId.{TransactionId}
 use Rattle.protocol.specs.declared.Nonce.{Nonce}
+use Rattle.protocol.specs.declared.FreshNonce.{FreshNonce}
 use Rattle.protocol.specs.declared.Transaction.{Transaction}
 use Rattle.protocol.specs.declared.FailureInfo.{FailureInfo}
 use Rattle.protocol.specs.declared.Outgoing.{Outgoing}
@@ -18,26 +19,24 @@ use Rattle.protocol.specs.declared.Outcome.the-variants as outcome
 use Rattle.protocol.specs.declared.TransactionState.the-variants.{Asked, Refused, Lapsed}
 use Rattle.protocol.specs.Message.{Fields, responseTo}
 use Rattle.protocol.specs.Refusals.{bitOf}
+use Rattle.protocol.specs.Slots.{ours}
 use Rattle.protocol.specs.RegistrarRows.{confirmsOtherNonce, otherHash, notTaken}
 
 -- an error message with status 2 and this bit
-abbrev pub errorMessage : TransactionId → Nonce → Nonce → FailureInfo → Outgoing
+abbrev pub errorMessage : TransactionId → FreshNonce → Nonce → FailureInfo → Outgoing
 errorMessage i n a b =
     record {
       kind = 23;
       id = i;
-      «sender_nonce» = n;
+      «sender_nonce» = ours n;
       «has_recip_nonce» = true;
       «recip_nonce» = a;
-      «has_status» = true;
-      status = 2;
-      hash = record { bytes = replicate 32 0 };
-      failure = b;
+      contents = record { «has_status» = true; status = 2; hash = record { bytes = replicate 32 0 }; failure = b };
     }
 
 -- "For numbers 6 up in message steps the desk also issues an error order with status 2 and that bit": i and a are the message's
 -- id and senderNonce, n the fresh nonce
-pub record ErrorRule (i : TransactionId) (n a : Nonce) (answer : RegistrarAnswer) : Type 0 where
+pub record ErrorRule (i : TransactionId) (n : FreshNonce) (a : Nonce) (answer : RegistrarAnswer) : Type 0 where
   pub from6 : (k : ℕ) (b : FailureInfo) → answer .outcome ≡ outcome.Refused k b → 6 ≤ k → (answer .sends ≡ true) × (answer .outgoing ≡ errorMessage i n a b)
   pub below6 : (k : ℕ) (b : FailureInfo) → answer .outcome ≡ outcome.Refused k b → k < 6 → answer .sends ≡ false
 

@@ -3,99 +3,56 @@ use Prim.Native.Nat.{ℕ}
 use mathlib.Core.Bool.{true, false}
 use Rattle.protocol.specs.declared.TransactionId.{TransactionId}
 use Rattle.protocol.specs.declared.Nonce.{Nonce}
+use Rattle.protocol.specs.declared.FreshNonce.{FreshNonce}
 use Rattle.protocol.specs.declared.Hash.{Hash}
 use Rattle.protocol.specs.declared.FailureInfo.{FailureInfo}
+use Rattle.protocol.specs.declared.Contents.{Contents}
 use Rattle.protocol.specs.declared.Outgoing.{Outgoing}
 use Rattle.protocol.specs.declared.FailureInfo.the-variants.{NoBit}
-use Rattle.protocol.specs.Bytes.{noId, noNonce, noHash}
+use Rattle.protocol.specs.Bytes.{noId, noNonce, noHash, nonceFrom}
 use Rattle.protocol.specs.Message.{certConf, pkiConf, errorKind}
+
+-- ## What only some kinds carry
+
+abbrev pub noContents : Contents
+noContents = record { «has_status» = false; status = 0; hash = noHash; failure = NoBit }
+
+-- Each of these sets a part of the contents and leaves the others.
+abbrev pub withStatus : ℕ → Contents → Contents
+withStatus s c = record { «has_status» = true; status = s; hash = c .hash; failure = c .failure }
+
+abbrev pub withHash : Hash → Contents → Contents
+withHash h c = record { «has_status» = c .«has_status»; status = c .status; hash = h; failure = c .failure }
+
+abbrev pub withFailure : FailureInfo → Contents → Contents
+withFailure f c = record { «has_status» = c .«has_status»; status = c .status; hash = c .hash; failure = f }
+
+-- ## The messages
 
 -- what stands in an answer that sends nothing
 unfoldable pub silent : Outgoing
-silent =
-    record {
-      kind = 0;
-      id = noId;
-      «sender_nonce» = noNonce;
-      «has_recip_nonce» = false;
-      «recip_nonce» = noNonce;
-      «has_status» = false;
-      status = 0;
-      hash = noHash;
-      failure = NoBit;
-    }
+silent = record { kind = 0; id = noId; «sender_nonce» = noNonce; «has_recip_nonce» = false; «recip_nonce» = noNonce; contents = noContents }
 
 -- ir, cr, p10cr or kur, at a start: the only message that answers none, so it has no recipNonce
-abbrev pub requestOut : (kind : ℕ) → TransactionId → Nonce → Outgoing
-requestOut k i n =
-    record {
-      kind = k;
-      id = i;
-      «sender_nonce» = n;
-      «has_recip_nonce» = false;
-      «recip_nonce» = noNonce;
-      «has_status» = false;
-      status = 0;
-      hash = noHash;
-      failure = NoBit;
-    }
+abbrev pub requestOut : (kind : ℕ) → TransactionId → FreshNonce → Outgoing
+requestOut k i n = record { kind = k; id = i; «sender_nonce» = nonceFrom n; «has_recip_nonce» = false; «recip_nonce» = noNonce; contents = noContents }
 
--- ip, cp or kup, with its status; "every answer carries the id and, as recipNonce, the senderNonce of the message answered"
-abbrev pub responseOut : (kind : ℕ) → TransactionId → (fresh answered : Nonce) → (status : ℕ) → Outgoing
-responseOut k i n a s =
-    record {
-      kind = k;
-      id = i;
-      «sender_nonce» = n;
-      «has_recip_nonce» = true;
-      «recip_nonce» = a;
-      «has_status» = true;
-      status = s;
-      hash = noHash;
-      failure = NoBit;
-    }
+-- "every answer carries the id and, as recipNonce, the senderNonce of the message answered"
+abbrev pub answerOut : (kind : ℕ) → TransactionId → FreshNonce → (answered : Nonce) → Contents → Outgoing
+answerOut k i n a c = record { kind = k; id = i; «sender_nonce» = nonceFrom n; «has_recip_nonce» = true; «recip_nonce» = a; contents = c }
+
+-- ip, cp or kup, with its status
+abbrev pub responseOut : (kind : ℕ) → TransactionId → FreshNonce → (answered : Nonce) → (status : ℕ) → Outgoing
+responseOut k i n a s = answerOut k i n a (withStatus s noContents)
 
 -- certConf, with its status and the certificate's hash
-abbrev pub certConfOut : TransactionId → (fresh answered : Nonce) → (status : ℕ) → Hash → Outgoing
-certConfOut i n a s h =
-    record {
-      kind = certConf;
-      id = i;
-      «sender_nonce» = n;
-      «has_recip_nonce» = true;
-      «recip_nonce» = a;
-      «has_status» = true;
-      status = s;
-      hash = h;
-      failure = NoBit;
-    }
+abbrev pub certConfOut : TransactionId → FreshNonce → (answered : Nonce) → (status : ℕ) → Hash → Outgoing
+certConfOut i n a s h = answerOut certConf i n a (withHash h (withStatus s noContents))
 
 -- pkiconf
-abbrev pub pkiConfOut : TransactionId → (fresh answered : Nonce) → Outgoing
-pkiConfOut i n a =
-    record {
-      kind = pkiConf;
-      id = i;
-      «sender_nonce» = n;
-      «has_recip_nonce» = true;
-      «recip_nonce» = a;
-      «has_status» = false;
-      status = 0;
-      hash = noHash;
-      failure = NoBit;
-    }
+abbrev pub pkiConfOut : TransactionId → FreshNonce → (answered : Nonce) → Outgoing
+pkiConfOut i n a = answerOut pkiConf i n a noContents
 
 -- error, "with status 2 and that bit"
-abbrev pub errorOut : TransactionId → (fresh answered : Nonce) → FailureInfo → Outgoing
-errorOut i n a f =
-    record {
-      kind = errorKind;
-      id = i;
-      «sender_nonce» = n;
-      «has_recip_nonce» = true;
-      «recip_nonce» = a;
-      «has_status» = true;
-      status = 2;
-      hash = noHash;
-      failure = f;
-    }
+abbrev pub errorOut : TransactionId → FreshNonce → (answered : Nonce) → FailureInfo → Outgoing
+errorOut i n a f = answerOut errorKind i n a (withFailure f (withStatus 2 noContents))

@@ -11,6 +11,7 @@ use Rattle.message.specs.declared.Reading.the-variants as read
 use Rattle.protocol.specs.declared.Board.{Board}
 use Rattle.protocol.specs.declared.TransactionId.{TransactionId}
 use Rattle.protocol.specs.declared.Nonce.{Nonce}
+use Rattle.protocol.specs.declared.FreshNonce.{FreshNonce}
 use Rattle.protocol.specs.declared.Hash.{Hash}
 use Rattle.protocol.specs.declared.Verdict.{Verdict}
 use Rattle.protocol.specs.declared.RegistrarInput.{RegistrarInput}
@@ -22,7 +23,7 @@ use Rattle.protocol.specs.declared.RegistrarAnswer.{RegistrarAnswer}
 use Rattle.protocol.specs.declared.TransactionState.the-variants.{Asked, Granted, Refused, Lapsed}
 use Rattle.protocol.specs.declared.Outcome.the-variants as outcome
 use Rattle.protocol.specs.declared.Verdict.the-variants.{Bad, Good}
-use Rattle.protocol.specs.Bytes.{asId, asNonce, noNonce, noHash}
+use Rattle.protocol.specs.Bytes.{asId, asNonce, noNonce, noHash, nonceFrom}
 use Rattle.protocol.specs.Message.{Fields, statusOr0, fieldsOf, responseTo}
 use Rattle.protocol.specs.Outgoing.{silent, errorOut, pkiConfOut, responseOut}
 use Rattle.protocol.specs.Table.{freeSlot, put, slotOf, replace, lookup, freeTransaction}
@@ -59,7 +60,7 @@ confirmedAt none = false
 confirmedAt (some r) = isConfirmed (r .state)
 
 -- a refused message: the table as it was; "for numbers 6 up in message steps the desk also issues an error order"
-abbrev pub refusedMessage : ℕ → Option Transaction → TransactionTable → Nonce → Fields → RegistrarAnswer
+abbrev pub refusedMessage : ℕ → Option Transaction → TransactionTable → FreshNonce → Fields → RegistrarAnswer
 refusedMessage k f t n m =
     record {
       outcome = outcome.Refused k (bitOf k (confirmedAt f));
@@ -83,7 +84,7 @@ abbrev pub settled : Transaction → TransactionState → Nonce → Transaction
 settled r s n = record { id = r .id; board = r .board; kind = r .kind; taken = n; sent = r .sent; hash = r .hash; state = s }
 
 -- "certConf at Granted: ... its senderNonce is kept; order pkiconf"; elsewhere "again: record unchanged, a new pkiconf order"
-abbrev pub confirmed : TransactionTable → Transaction → Nonce → Fields → RegistrarAnswer
+abbrev pub confirmed : TransactionTable → Transaction → FreshNonce → Fields → RegistrarAnswer
 confirmed t r n m =
     let i : TransactionId = asId (m .id) in
     let a : Nonce = asNonce (m .senderNonce) in
@@ -128,16 +129,16 @@ abbrev pub responded : Transaction → TransactionState → Nonce → Hash → T
 responded r s n h = record { id = r .id; board = r .board; kind = r .kind; taken = r .taken; sent = n; hash = h; state = s }
 
 -- "order ip, cp or kup": the response to the transaction's request
-abbrev pub respond : TransactionTable → TransactionId → Transaction → TransactionState → (status : ℕ) → Nonce → Hash → RegistrarAnswer
+abbrev pub respond : TransactionTable → TransactionId → Transaction → TransactionState → (status : ℕ) → FreshNonce → Hash → RegistrarAnswer
 respond t i r s status n h =
-    doneSending (slotOf (t .transactions) i) (replace (t .transactions) i (responded r s n h)) (responseOut (responseTo (r .kind)) i n (r .taken) status)
+    doneSending (slotOf (t .transactions) i) (replace (t .transactions) i (responded r s (nonceFrom n) h)) (responseOut (responseTo (r .kind)) i n (r .taken) status)
 
 -- "issue, Asked to Granted, with hash and nonce, ... with status 0"
-unfoldable pub registrarIssue : TransactionTable → TransactionId → Nonce → Hash → RegistrarAnswer
+unfoldable pub registrarIssue : TransactionTable → TransactionId → FreshNonce → Hash → RegistrarAnswer
 registrarIssue t i n h = hostStep (lookup (t .transactions) i) t mayIssue (λ r. respond t i r Granted 0 n h)
 
 -- "refuse, Asked to Refused, with nonce, the same order with status 2"
-unfoldable pub registrarRefuse : TransactionTable → TransactionId → Nonce → RegistrarAnswer
+unfoldable pub registrarRefuse : TransactionTable → TransactionId → FreshNonce → RegistrarAnswer
 registrarRefuse t i n = hostStep (lookup (t .transactions) i) t mayRefuse (λ r. respond t i r Refused 2 n (r .hash))
 
 abbrev pub replaced : TransactionTable → TransactionId → Transaction → RegistrarAnswer

@@ -6,7 +6,7 @@ use mathlib.Core.Option.{Option, none, some}
 use lib.ListN.{getElem?, set}
 use Rattle.protocol.specs.declared.Board.{Board}
 use Rattle.protocol.specs.declared.TransactionId.{TransactionId}
-use Rattle.protocol.specs.declared.Nonce.{Nonce}
+use Rattle.protocol.specs.declared.FreshNonce.{FreshNonce}
 use Rattle.protocol.specs.declared.Hash.{Hash}
 use Rattle.protocol.specs.declared.RegistrarInput.{RegistrarInput}
 use Rattle.protocol.specs.declared.EndEntityInput.{EndEntityInput}
@@ -25,11 +25,11 @@ use Rattle.protocol.specs.EndEntity.{endEntityStart, endEntityMessage, e
 -- any bytes, any verdict and whatever else the host hands in; the desk's host steps (issue, refuse, lapse, close); the boards'
 -- time outs; refused ones as well." A call on an enrolment names it by its place in the order of the starts.
 pub data Call : Type 0 where
-  Start : Board → (kind : ℕ) → TransactionId → Nonce → Call
+  Start : Board → (kind : ℕ) → TransactionId → FreshNonce → Call
   ToRegistrar : (bytes : List ℕ) → RegistrarInput → Call
   ToEndEntity : (place : ℕ) → (bytes : List ℕ) → EndEntityInput → Call
-  Issue : TransactionId → Hash → Nonce → Call
-  Refuse : TransactionId → Nonce → Call
+  Issue : TransactionId → Hash → FreshNonce → Call
+  Refuse : TransactionId → FreshNonce → Call
   Lapse : TransactionId → Call
   Close : TransactionId → Call
   TimeOut : (place : ℕ) → Call

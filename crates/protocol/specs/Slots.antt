@@ -1,16 +1,20 @@
--- Where a transaction stands, and what an answer changes: one slot of the table, and no other.
+-- Where a transaction stands, what an answer changes (one slot of the table, and no other), and what it sends.
 use Prim.Native.Nat.{ℕ, _≤_}
 use mathlib.Core.Bool.{true, false}
 use mathlib.Core.Option.{some}
 use mathlib.Core.Path.{_≡_}
 use mathlib.Core.Logic.{_≢_}
-use lib.ListN.{getElem?, length}
+use lib.ListN.{getElem?, length, replicate}
 use Rattle.protocol.specs.declared.TransactionId.{TransactionId}
+use Rattle.protocol.specs.declared.Nonce.{Nonce}
+use Rattle.protocol.specs.declared.FreshNonce.{FreshNonce}
 use Rattle.protocol.specs.declared.Transaction.{Transaction}
 use Rattle.protocol.specs.declared.TransactionTable.{TransactionTable}
+use Rattle.protocol.specs.declared.Contents.{Contents}
 use Rattle.protocol.specs.declared.Outgoing.{Outgoing}
 use Rattle.protocol.specs.declared.RegistrarAnswer.{RegistrarAnswer}
 use Rattle.protocol.specs.declared.Outcome.the-variants as outcome
+use Rattle.protocol.specs.declared.FailureInfo.the-variants.{NoBit}
 use Rattle.protocol.specs.declared.TransactionState.the-variants.{Free}
 use Rattle.protocol.specs.Refusals.{noFault}
 use Rattle.protocol.specs.Outgoing.{silent}
@@ -38,6 +42,14 @@ pub record Becomes (t : TransactionTable) (i : TransactionId) (r x : Transaction
   pub fault : a .fault ≡ noFault
   pub held : FirstAt t (a .slot .0) i r
   pub only : OnlyAt t (a .slot .0) x (a .table)
+
+-- the 16 bytes that the host drew, as a nonce that is sent and kept
+abbrev pub ours : FreshNonce → Nonce
+ours n = record { bytes = n .bytes }
+
+-- a message that carries no status, no hash and no bit
+abbrev pub bare : Contents
+bare = record { «has_status» = false; status = 0; hash = record { bytes = replicate 32 0 }; failure = NoBit }
 
 -- this is sent
 abbrev pub Sends : Outgoing → RegistrarAnswer → Type 0

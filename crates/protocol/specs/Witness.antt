@@ -7,7 +7,7 @@ use mathlib.Core.Path.{_≡_}
 use lib.ListN.{getElem?, replicate}
 use Rattle.protocol.specs.declared.Board.{Board}
 use Rattle.protocol.specs.declared.TransactionId.{TransactionId}
-use Rattle.protocol.specs.declared.Nonce.{Nonce}
+use Rattle.protocol.specs.declared.FreshNonce.{FreshNonce}
 use Rattle.protocol.specs.declared.Hash.{Hash}
 use Rattle.protocol.specs.declared.TransactionState.{TransactionState}
 use Rattle.protocol.specs.declared.EnrolmentState.{EnrolmentState}
@@ -24,7 +24,7 @@ board = record { 0 = 5 }
 abbrev pub id : TransactionId
 id = record { bytes = replicate 16 0x11 }
 
-abbrev pub nonce : ℕ → Nonce
+abbrev pub nonce : ℕ → FreshNonce
 nonce n = record { bytes = replicate 16 n }
 
 abbrev pub hash : Hash

@@ -2,6 +2,13 @@
 ghost use mathlib.Core.Path.{_≡_};
 ghost use Rattle.protocol.specs.Message.{isEnrolmentKind, isOpeningKind, isStartingKind, responseTo, requestNumber};
 
+// The kinds that are no request and no response.
+pub const PKI_CONF: u8 = 19;
+
+pub const ERROR: u8 = 23;
+
+pub const CERT_CONF: u8 = 24;
+
 // What is given for a kind that no pair names.
 const UNPAIRED: u8 = 3;
 

@@ -1,10 +1,12 @@
 // The types that the registrar (01's desk) and the end entities (01's board ends) share.
 use message::ReadFault;
 ghost use mathlib.Core.Path.{_≡_};
-ghost use Rattle.protocol.specs.Table.{emptyTable};
-ghost use Rattle.protocol.specs.Outgoing.{silent};
+ghost use Rattle.protocol.specs.Bytes.{noId, noNonce, noHash, nonceFrom};
+ghost use Rattle.protocol.specs.Table.{freeTransaction, emptyTable};
+ghost use Rattle.protocol.specs.EndEntity.{noEnrolment};
 
 pub mod kinds;
+mod messages;
 
 // A board's number.
 pub struct Board(pub u16);
@@ -17,14 +19,52 @@ pub struct TransactionId {
     pub bytes: [u8; TransactionTable::ID_BYTES],
 }
 
-// A senderNonce or a recipNonce.
+// A senderNonce or a recipNonce, of a message that came or of one to be sent.
 pub struct Nonce {
+    pub bytes: [u8; 16],
+}
+
+// The 16 bytes that the host draws for a nonce of our own.
+pub struct FreshNonce {
     pub bytes: [u8; 16],
 }
 
 // The hash of a certificate, as the host works it out.
 pub struct Hash {
     pub bytes: [u8; 32],
+}
+
+// The id that is not set.
+pub fn no_id() -> TransactionId
+    ensures { λ r. ⌜ r ≡ noId ⌝ }
+{
+    TransactionId {
+        bytes: [0u8; TransactionTable::ID_BYTES],
+    }
+}
+
+// The nonce that is not set.
+pub fn no_nonce() -> Nonce
+    ensures { λ r. ⌜ r ≡ noNonce ⌝ }
+{
+    Nonce { bytes: [0u8; 16] }
+}
+
+// The hash that is not set.
+pub fn no_hash() -> Hash
+    ensures { λ r. ⌜ r ≡ noHash ⌝ }
+{
+    Hash { bytes: [0u8; 32] }
+}
+
+impl FreshNonce {
+    // As it is sent and kept.
+    pub fn nonce(self) -> Nonce
+        ensures { λ r. ⌜ r ≡ nonceFrom self ⌝ }
+    {
+        let bytes = self.bytes;
+        Nonce { bytes }
+    }
 }
 
 // The protection of a message (01's verdict): bad, or good with the board whose key checked.
@@ -36,7 +76,7 @@ pub enum Verdict {
 // What the host hands to the registrar with a message: its verdict and a fresh nonce.
 pub struct RegistrarInput {
     pub verdict: Verdict,
-    pub nonce: Nonce,
+    pub nonce: FreshNonce,
 }
 
 // What the host hands to an end entity with a message: whether the registrar's key checked, whether the certificate
@@ -45,7 +85,7 @@ pub struct EndEntityInput {
     pub good: bool,
     pub accept: bool,
     pub hash: Hash,
-    pub nonce: Nonce,
+    pub nonce: FreshNonce,
 }
 
 // The registrar's states of a transaction, under 01's names. Free: the slot holds none.
@@ -71,6 +111,23 @@ pub struct Transaction {
     pub state: TransactionState,
 }
 
+impl Transaction {
+    // What a free slot holds.
+    pub fn free() -> Transaction
+        ensures { λ r. ⌜ r ≡ freeTransaction ⌝ }
+    {
+        Transaction {
+            id: no_id(),
+            board: Board(0),
+            kind: 0,
+            taken: no_nonce(),
+            sent: no_nonce(),
+            hash: no_hash(),
+            state: TransactionState::Free,
+        }
+    }
+}
+
 // The registrar's table (01's book). It owns the limits and the empty beginning.
 pub struct TransactionTable {
     pub transactions: [Transaction; TransactionTable::CAPACITY],
@@ -87,17 +144,7 @@ impl TransactionTable {
     pub fn empty() -> TransactionTable
         ensures { λ r. ⌜ r ≡ emptyTable ⌝ }
     {
-        let free = Transaction {
-            id: TransactionId {
-                bytes: [0u8; TransactionTable::ID_BYTES],
-            },
-            board: Board(0),
-            kind: 0,
-            taken: Nonce { bytes: [0u8; 16] },
-            sent: Nonce { bytes: [0u8; 16] },
-            hash: Hash { bytes: [0u8; 32] },
-            state: TransactionState::Free,
-        };
+        let free = Transaction::free();
         TransactionTable {
             transactions: [free; TransactionTable::CAPACITY],
         }
@@ -126,45 +173,44 @@ pub struct Enrolment {
     pub state: EnrolmentState,
 }
 
+impl Enrolment {
+    // What stands where there is none: it takes nothing.
+    pub fn none() -> Enrolment
+        ensures { λ r. ⌜ r ≡ noEnrolment ⌝ }
+    {
+        Enrolment {
+            id: no_id(),
+            kind: 0,
+            last: no_nonce(),
+            taken: no_nonce(),
+            hash: no_hash(),
+            state: EnrolmentState::Failed,
+        }
+    }
+}
+
 // A PKIFailureInfo bit, or none. Bit 0 is badAlg, so none is a case of its own.
 pub enum FailureInfo {
     NoBit,
     Bit(u8),
 }
 
-// A message to be sent (01's order). The recipNonce and the status are there where their flags say so; the hash is
-// there in a certConf.
-pub struct Outgoing {
-    pub kind: u8,
-    pub id: TransactionId,
-    pub sender_nonce: Nonce,
-    pub has_recip_nonce: bool,
-    pub recip_nonce: Nonce,
+// What only some kinds carry: a status where the flag says so, a hash in a certConf, a bit in an error.
+pub struct Contents {
     pub has_status: bool,
     pub status: u32,
     pub hash: Hash,
     pub failure: FailureInfo,
 }
 
-impl Outgoing {
-    // What stands in an answer that sends nothing.
-    pub fn silent() -> Outgoing
-        ensures { λ r. ⌜ r ≡ silent ⌝ }
-    {
-        Outgoing {
-            kind: 0,
-            id: TransactionId {
-                bytes: [0u8; TransactionTable::ID_BYTES],
-            },
-            sender_nonce: Nonce { bytes: [0u8; 16] },
-            has_recip_nonce: false,
-            recip_nonce: Nonce { bytes: [0u8; 16] },
-            has_status: false,
-            status: 0,
-            hash: Hash { bytes: [0u8; 32] },
-            failure: FailureInfo::NoBit,
-        }
-    }
+// A message to be sent (01's order). The recipNonce is there where its flag says so.
+pub struct Outgoing {
+    pub kind: u8,
+    pub id: TransactionId,
+    pub sender_nonce: Nonce,
+    pub has_recip_nonce: bool,
+    pub recip_nonce: Nonce,
+    pub contents: Contents,
 }
 
 // How a call ended: done; the same answer given again, with no change; or refused, with its number and bit.

@@ -7,12 +7,13 @@ use mathlib.Core.Path.{_≡_, sym, _∙_, ap}
 use native.Mathlib.Omega.{arith}
 use lib.ListN.{length, getD, set}
 use Rattle.protocol.specs.declared.TransactionId.{TransactionId}
-use Rattle.protocol.specs.declared.Nonce.{Nonce}
+use Rattle.protocol.specs.declared.FreshNonce.{FreshNonce}
 use Rattle.protocol.specs.declared.Hash.{Hash}
 use Rattle.protocol.specs.declared.Transaction.{Transaction}
 use Rattle.protocol.specs.declared.TransactionTable.{TransactionTable}
 use Rattle.protocol.specs.declared.RegistrarAnswer.{RegistrarAnswer}
 use Rattle.protocol.specs.declared.TransactionState.{TransactionState}
+use Rattle.protocol.specs.Bytes.{nonceFrom}
 use Rattle.protocol.specs.Table.{lookup, slotOf, freeTransaction}
 use Rattle.protocol.specs.Registrar.{hostStep, refusedQuietly, doneQuietly, responded, respond, replaced}
 use Rattle.registrar.specs.Steps.{heldAt, responseAnswer}
@@ -32,8 +33,8 @@ module _ (t : TransactionTable) (i : TransactionId) {p : ℕ} (slot : (p ≡ slo
   pub quietly : {x y : Transaction} → x ≡ y → doneQuietly p (set rs p x) ≡ replaced t i y
   quietly {x} e = rw (← e, slot .0, slot-set rs i x)
 
-  pub sending : (r : Transaction) (s : TransactionState) (status : ℕ) (n : Nonce) (h : Hash) → responseAnswer t p r i s status n h ≡ respond t i r s status n h
-  sending r s status n h = rw (slot .0, slot-set rs i (responded r s n h))
+  pub sending : (r : Transaction) (s : TransactionState) (status : ℕ) (n : FreshNonce) (h : Hash) → responseAnswer t p r i s status n h ≡ respond t i r s status n h
+  sending r s status n h = rw (slot .0, slot-set rs i (responded r s (nonceFrom n) h))
 
   module _ (ok : Transaction → Bool) (f : Transaction → RegistrarAnswer) where
     pub no-slot : 16 ≤ p → refusedQuietly 30 t ≡ hostStep (lookup rs i) t ok f

@@ -16,6 +16,7 @@ use Rattle.message.specs.declared.Reading.{Reading}
 use Rattle.message.specs.declared.Reading.the-variants.{Clean, Refused}
 use Rattle.protocol.specs.declared.TransactionId.{TransactionId}
 use Rattle.protocol.specs.declared.Nonce.{Nonce}
+use Rattle.protocol.specs.declared.FreshNonce.{FreshNonce}
 use Rattle.protocol.specs.declared.Board.{Board}
 use Rattle.protocol.specs.declared.TransactionState.{TransactionState}
 use Rattle.protocol.specs.declared.Transaction.{Transaction}
@@ -52,7 +53,7 @@ pub open-is :
 open-is t x e q = rw (e, q, free-set (t .transactions) x)
 
 -- a confirmation by what the code makes for it: the acknowledgement o, the next state w
-module _ (t : TransactionTable) (p : ℕ) (r : Transaction) (n : Nonce) (i : TransactionId) (a : Nonce) (s : ℕ) {o : Outgoing} (eo : o ≡ pkiConfOut i n a) where
+module _ (t : TransactionTable) (p : ℕ) (r : Transaction) (n : FreshNonce) (i : TransactionId) (a : Nonce) (s : ℕ) {o : Outgoing} (eo : o ≡ pkiConfOut i n a) where
   pub confirm-moves :
       {u : TransactionTable} {x : Transaction} → u ≡ withAt t p x →
       {w : TransactionState} → w ≡ settledState s → x ≡ settled r w a →

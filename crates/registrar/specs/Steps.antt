@@ -7,8 +7,10 @@ use mathlib.Core.Path.{_≡_}
 use lib.ListN.{getD, set}
 use lib.Dec.{eqb, leb}
 use Rattle.grammar.specs.declared.Message.{Message}
+use Rattle.protocol.specs.declared.Board.{Board}
 use Rattle.protocol.specs.declared.TransactionId.{TransactionId}
 use Rattle.protocol.specs.declared.Nonce.{Nonce}
+use Rattle.protocol.specs.declared.FreshNonce.{FreshNonce}
 use Rattle.protocol.specs.declared.Hash.{Hash}
 use Rattle.protocol.specs.declared.Outgoing.{Outgoing}
 use Rattle.protocol.specs.declared.TransactionState.{TransactionState}
@@ -18,7 +20,7 @@ use Rattle.protocol.specs.declared.TransactionTable.{TransactionTable}
 use Rattle.protocol.specs.declared.RegistrarInput.{RegistrarInput}
 use Rattle.protocol.specs.declared.RegistrarAnswer.{RegistrarAnswer}
 use Rattle.protocol.specs.declared.Outcome.the-variants as outcome
-use Rattle.protocol.specs.Bytes.{asId, asNonce, noNonce, noHash}
+use Rattle.protocol.specs.Bytes.{asId, asNonce, noNonce, noHash, nonceFrom}
 use Rattle.protocol.specs.Message.{Fields, fieldsOf, isOpeningKind, certConf, responseTo}
 use Rattle.protocol.specs.Outgoing.{silent, errorOut, pkiConfOut, responseOut}
 use Rattle.protocol.specs.Table.{freeTransaction, lookup, freeSlot, put}
@@ -45,7 +47,7 @@ foundBy false r = none
 -- ## Answers
 
 -- refused: from 6 up with an error message for the id i, which answers the nonce a
-abbrev pub refusalAnswer : (number : ℕ) → (confirmed : Bool) → TransactionTable → (fresh : Nonce) → (i : TransactionId) → (a : Nonce) → RegistrarAnswer
+abbrev pub refusalAnswer : (number : ℕ) → (confirmed : Bool) → TransactionTable → (fresh : FreshNonce) → (i : TransactionId) → (a : Nonce) → RegistrarAnswer
 refusalAnswer k c t n i a =
     record {
       outcome = outcome.Refused k (bitOf k c);
@@ -60,8 +62,12 @@ refusalAnswer k c t n i a =
 abbrev pub repeated : (p : ℕ) → TransactionTable → Outgoing → RegistrarAnswer
 repeated p t o = record { outcome = outcome.Again; fault = noFault; slot = record { 0 = p }; sends = true; outgoing = o; table = t }
 
+-- the transaction that a request opens
+abbrev pub askedTransaction : TransactionId → Board → (kind : ℕ) → (taken : Nonce) → Transaction
+askedTransaction i b k a = record { id = i; board = b; kind = k; taken = a; sent = noNonce; hash = noHash; state = Asked }
+
 -- a confirmation of this status that is not refused, for the transaction r in the slot p: at Granted it moves, else it is "again"
-abbrev pub confirmation : TransactionTable → (p : ℕ) → (r : Transaction) → (fresh : Nonce) → (i : TransactionId) → (a : Nonce) → (status : ℕ) → RegistrarAnswer
+abbrev pub confirmation : TransactionTable → (p : ℕ) → (r : Transaction) → (fresh : FreshNonce) → (i : TransactionId) → (a : Nonce) → (status : ℕ) → RegistrarAnswer
 confirmation t p r n i a s =
     cond (isGranted (r .state)) (doneSending p (set (t .transactions) p (settled r (settledState s) a)) (pkiConfOut i n a)) (repeated p t (pkiConfOut i n a))
 
@@ -69,12 +75,12 @@ confirmation t p r n i a s =
 abbrev pub takenAt : TransactionTable → (p : ℕ) → (r : Transaction) → (k status : ℕ) → RegistrarInput → (i : TransactionId) → (a : Nonce) → RegistrarAnswer
 takenAt t p r k s d i a =
     cond (isOpeningKind k)
-    (doneQuietly (freeSlot (t .transactions)) (put (t .transactions) (record { id = i; board = boardNamed (d .verdict); kind = k; taken = a; sent = noNonce; hash = noHash; state = Asked })))
+    (doneQuietly (freeSlot (t .transactions)) (put (t .transactions) (askedTransaction i (boardNamed (d .verdict)) k a)))
     (cond (eqb k certConf) (confirmation t p r (d .nonce) i a s) (refusalAnswer 8 (isConfirmed (r .state)) t (d .nonce) i a))
 
 -- a response of this status for the transaction r in the slot p, which then is in the state s
-abbrev pub responseAnswer : TransactionTable → (p : ℕ) → (r : Transaction) → TransactionId → TransactionState → (status : ℕ) → Nonce → Hash → RegistrarAnswer
-responseAnswer t p r i s status n h = doneSending p (set (t .transactions) p (responded r s n h)) (responseOut (responseTo (r .kind)) i n (r .taken) status)
+abbrev pub responseAnswer : TransactionTable → (p : ℕ) → (r : Transaction) → TransactionId → TransactionState → (status : ℕ) → FreshNonce → Hash → RegistrarAnswer
+responseAnswer t p r i s status n h = doneSending p (set (t .transactions) p (responded r s (nonceFrom n) h)) (responseOut (responseTo (r .kind)) i n (r .taken) status)
 
 -- a message that the rows 3 to 7 do not refuse, by its id i: f is what the table has for it
 abbrev pub headed : TransactionTable → RegistrarInput → (i : TransactionId) → Fields → RegistrarAnswer

@@ -1,10 +1,9 @@
-// The messages that the registrar gives to be sent, and the forms of its answers.
+// The forms of the registrar's answers.
 use der::Offset;
 use incoming::rows::bit_of;
 use incoming::rows::read_refusal;
 use message::ReadFault;
-use protocol::FailureInfo;
-use protocol::Hash;
+use protocol::FreshNonce;
 use protocol::Nonce;
 use protocol::Outcome;
 use protocol::Outgoing;
@@ -13,67 +12,9 @@ use protocol::Slot;
 use protocol::TransactionId;
 use protocol::TransactionTable;
 ghost use mathlib.Core.Path.{_≡_};
-ghost use Rattle.protocol.specs.Outgoing.{errorOut, pkiConfOut, responseOut};
 ghost use Rattle.protocol.specs.Refusals.{noFault};
 ghost use Rattle.protocol.specs.Registrar.{refusedQuietly, refusedReading, doneQuietly, doneSending};
 ghost use Rattle.registrar.specs.Steps.{refusalAnswer, repeated};
-
-// error, with status 2
-fn error_out(id: TransactionId, fresh: Nonce, answered: Nonce, failure: FailureInfo) -> Outgoing
-    ensures { λ r. ⌜ r ≡ errorOut id fresh answered failure ⌝ }
-{
-    Outgoing {
-        kind: 23,
-        id,
-        sender_nonce: fresh,
-        has_recip_nonce: true,
-        recip_nonce: answered,
-        has_status: true,
-        status: 2,
-        hash: Hash { bytes: [0u8; 32] },
-        failure,
-    }
-}
-
-// pkiconf
-pub(crate) fn pki_conf_out(id: TransactionId, fresh: Nonce, answered: Nonce) -> Outgoing
-    ensures { λ r. ⌜ r ≡ pkiConfOut id fresh answered ⌝ }
-{
-    Outgoing {
-        kind: 19,
-        id,
-        sender_nonce: fresh,
-        has_recip_nonce: true,
-        recip_nonce: answered,
-        has_status: false,
-        status: 0,
-        hash: Hash { bytes: [0u8; 32] },
-        failure: FailureInfo::NoBit,
-    }
-}
-
-// ip, cp or kup
-pub(crate) fn response_out(
-    kind: u8,
-    id: TransactionId,
-    fresh: Nonce,
-    answered: Nonce,
-    status: u32,
-) -> Outgoing
-    ensures { λ r. ⌜ r ≡ responseOut kind id fresh answered status ⌝ }
-{
-    Outgoing {
-        kind,
-        id,
-        sender_nonce: fresh,
-        has_recip_nonce: true,
-        recip_nonce: answered,
-        has_status: true,
-        status,
-        hash: Hash { bytes: [0u8; 32] },
-        failure: FailureInfo::NoBit,
-    }
-}
 
 fn no_fault() -> ReadFault
     ensures { λ r. ⌜ r ≡ noFault ⌝ }
@@ -119,7 +60,7 @@ pub(crate) fn refused_message(
     number: u8,
     confirmed: bool,
     table: TransactionTable,
-    fresh: Nonce,
+    fresh: FreshNonce,
     id: TransactionId,
     answered: Nonce,
 ) -> RegistrarAnswer
@@ -132,7 +73,7 @@ pub(crate) fn refused_message(
             fault: no_fault(),
             slot: Slot(0),
             sends: true,
-            outgoing: error_out(id, fresh, answered, bit),
+            outgoing: Outgoing::error(id, fresh, answered, bit),
             table,
         };
     }

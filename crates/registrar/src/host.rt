@@ -2,17 +2,17 @@
 use crate::answers::done_quietly;
 use crate::answers::done_sending;
 use crate::answers::refused_quietly;
-use crate::answers::response_out;
 use crate::slots::find;
-use crate::slots::free_transaction;
 use crate::slots::transaction_at;
 use crate::slots::with_at;
 use crate::states::may_close;
 use crate::states::may_issue;
 use crate::states::may_lapse;
 use crate::states::may_refuse;
+use protocol::FreshNonce;
 use protocol::Hash;
 use protocol::Nonce;
+use protocol::Outgoing;
 use protocol::RegistrarAnswer;
 use protocol::Slot;
 use protocol::Transaction;
@@ -70,16 +70,16 @@ fn respond(
     id: TransactionId,
     state: TransactionState,
     status: u32,
-    nonce: Nonce,
+    nonce: FreshNonce,
     hash: Hash,
 ) -> RegistrarAnswer
     ensures { λ r. ⌜ r ≡ responseAnswer table (slot .0) held id state status nonce hash ⌝ }
 {
-    let next = with_at(table, slot, responded(held, state, nonce, hash));
+    let next = with_at(table, slot, responded(held, state, nonce.nonce(), hash));
     done_sending(
         slot,
         next,
-        response_out(response_to(held.kind), id, nonce, held.taken, status),
+        Outgoing::response(response_to(held.kind), id, nonce, held.taken, status),
     )
 }
 
@@ -94,7 +94,7 @@ fn changed(table: TransactionTable, slot: Slot, x: Transaction) -> RegistrarAnsw
 pub fn issue(
     table: TransactionTable,
     id: TransactionId,
-    nonce: Nonce,
+    nonce: FreshNonce,
     hash: Hash,
 ) -> RegistrarAnswer
     ensures { λ r. ⌜ r ≡ registrarIssue table id nonce hash ⌝ }
@@ -120,7 +120,7 @@ pub fn issue(
 }
 
 // Asked to Refused: the request is rejected.
-pub fn refuse(table: TransactionTable, id: TransactionId, nonce: Nonce) -> RegistrarAnswer
+pub fn refuse(table: TransactionTable, id: TransactionId, nonce: FreshNonce) -> RegistrarAnswer
     ensures { λ r. ⌜ r ≡ registrarRefuse table id nonce ⌝ }
 {
     let slot = find(table, id);
@@ -170,7 +170,7 @@ pub fn close(table: TransactionTable, id: TransactionId) -> RegistrarAnswer
     if slot < TransactionTable::CAPACITY {
         let held = transaction_at(table, Slot(slot));
         if may_close(held) {
-            return changed(table, Slot(slot), free_transaction());
+            return changed(table, Slot(slot), Transaction::free());
         }
         return refused_quietly(31, table);
     }

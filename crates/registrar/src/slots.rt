@@ -1,17 +1,13 @@
 // The table's slots: which one an id names, the lowest free one, and the table with one of them changed.
 use crate::states::is_free;
 use parts::same_id;
-use protocol::Board;
-use protocol::Hash;
-use protocol::Nonce;
 use protocol::Slot;
 use protocol::Transaction;
 use protocol::TransactionId;
-use protocol::TransactionState;
 use protocol::TransactionTable;
 ghost use mathlib.Core.Path.{_≡_};
 ghost use lib.ListN.{length};
-ghost use Rattle.protocol.specs.Table.{isFree, isFor, slotOf, freeSlot, freeTransaction};
+ghost use Rattle.protocol.specs.Table.{isFree, isFor, slotOf, freeSlot};
 ghost use Rattle.registrar.specs.Steps.{heldAt, withAt};
 
 fn is_for(id: TransactionId, t: Transaction) -> bool
@@ -62,23 +58,6 @@ pub(crate) fn free_slot(table: TransactionTable) -> usize
     TransactionTable::CAPACITY
 }
 
-// What a free slot holds.
-pub(crate) fn free_transaction() -> Transaction
-    ensures { λ r. ⌜ r ≡ freeTransaction ⌝ }
-{
-    Transaction {
-        id: TransactionId {
-            bytes: [0u8; TransactionTable::ID_BYTES],
-        },
-        board: Board(0),
-        kind: 0,
-        taken: Nonce { bytes: [0u8; 16] },
-        sent: Nonce { bytes: [0u8; 16] },
-        hash: Hash { bytes: [0u8; 32] },
-        state: TransactionState::Free,
-    }
-}
-
 // The transaction in a slot; a free one past the last slot.
 pub fn transaction_at(table: TransactionTable, slot: Slot) -> Transaction
     ensures { λ r. ⌜ r ≡ heldAt (table .transactions) (slot .0) ⌝ }
@@ -87,7 +66,7 @@ pub fn transaction_at(table: TransactionTable, slot: Slot) -> Transaction
     if place < TransactionTable::CAPACITY {
         return table.transactions[place];
     }
-    free_transaction()
+    Transaction::free()
 }
 
 // The table with this transaction in a slot; as it was past the last slot.

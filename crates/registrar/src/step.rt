@@ -2,7 +2,6 @@
 use crate::answers::again;
 use crate::answers::done_quietly;
 use crate::answers::done_sending;
-use crate::answers::pki_conf_out;
 use crate::answers::refused_message;
 use crate::answers::refused_reading;
 use crate::host::settled;
@@ -24,8 +23,9 @@ use message::read;
 use parts::id_of;
 use parts::nonce_of;
 use protocol::Board;
-use protocol::Hash;
+use protocol::FreshNonce;
 use protocol::Nonce;
+use protocol::Outgoing;
 use protocol::RegistrarAnswer;
 use protocol::RegistrarInput;
 use protocol::Slot;
@@ -34,13 +34,15 @@ use protocol::TransactionId;
 use protocol::TransactionState;
 use protocol::TransactionTable;
 use protocol::Verdict;
+use protocol::kinds::CERT_CONF;
 use protocol::kinds::is_opening_kind;
+use protocol::no_hash;
+use protocol::no_nonce;
 ghost use mathlib.Core.Path.{_≡_};
-ghost use Rattle.protocol.specs.Bytes.{noNonce, noHash};
 ghost use Rattle.protocol.specs.Message.{fieldsOf};
 ghost use Rattle.protocol.specs.Table.{freeSlot, put};
 ghost use Rattle.protocol.specs.Registrar.{boardNamed, doneQuietly, registrarFields, registrarMessage};
-ghost use Rattle.registrar.specs.Steps.{confirmation, takenAt, Copied};
+ghost use Rattle.registrar.specs.Steps.{askedTransaction, confirmation, takenAt, Copied};
 ghost use Rattle.registrar.specs.Steps.{headed as Steps·headed};
 
 fn board_named(verdict: Verdict) -> Board
@@ -52,6 +54,21 @@ fn board_named(verdict: Verdict) -> Board
     }
 }
 
+// The transaction that a request opens.
+fn asked(id: TransactionId, board: Board, kind: u8, taken: Nonce) -> Transaction
+    ensures { λ r. ⌜ r ≡ askedTransaction id board kind taken ⌝ }
+{
+    Transaction {
+        id,
+        board,
+        kind,
+        taken,
+        sent: no_nonce(),
+        hash: no_hash(),
+        state: TransactionState::Asked,
+    }
+}
+
 // A request that is not refused: the lowest free slot becomes Asked.
 fn open(
     table: TransactionTable,
@@ -60,19 +77,11 @@ fn open(
     kind: u8,
     taken: Nonce,
 ) -> RegistrarAnswer
-    ensures { λ r. ⌜ r ≡ doneQuietly (freeSlot (table .transactions)) (put (table .transactions) (record { id = id; board = board; kind = kind; taken = taken; sent = noNonce; hash = noHash; state = TransactionState.Asked })) ⌝ }
+    ensures { λ r. ⌜ r ≡ doneQuietly (freeSlot (table .transactions)) (put (table .transactions) (askedTransaction id board kind taken)) ⌝ }
 {
     let slot = free_slot(table);
-    let asked = Transaction {
-        id,
-        board,
-        kind,
-        taken,
-        sent: Nonce { bytes: [0u8; 16] },
-        hash: Hash { bytes: [0u8; 32] },
-        state: TransactionState::Asked,
-    };
-    done_quietly(Slot(slot), with_at(table, Slot(slot), asked))
+    let next = with_at(table, Slot(slot), asked(id, board, kind, taken));
+    done_quietly(Slot(slot), next)
 }
 
 // A confirmation that is not refused: it moves the transaction at Granted, else it is the same once more.
@@ -80,14 +89,14 @@ fn confirm(
     table: TransactionTable,
     slot: Slot,
     held: Transaction,
-    fresh: Nonce,
+    fresh: FreshNonce,
     id: TransactionId,
     answered: Nonce,
     status: u32,
 ) -> RegistrarAnswer
     ensures { λ r. ⌜ r ≡ confirmation table (slot .0) held fresh id answered status ⌝ }
 {
-    let outgoing = pki_conf_out(id, fresh, answered);
+    let outgoing = Outgoing::pki_conf(id, fresh, answered);
     let state = held.state;
     if is_granted(state) {
         let next = settled(held, settled_state(status), answered);
@@ -114,7 +123,7 @@ fn taken(
     if is_opening_kind(kind) {
         return open(table, id, board_named(verdict), kind, answered);
     }
-    if kind == 24 {
+    if kind == CERT_CONF {
         return confirm(table, slot, held, input.nonce, id, answered, status);
     }
     refused_message(8, is_confirmed(state), table, input.nonce, id, answered)

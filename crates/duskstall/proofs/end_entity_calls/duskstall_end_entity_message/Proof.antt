@@ -22,7 +22,7 @@ returns c =
       ← good .yes .ensures,
       ← accept .yes2 .ensures,
       ← hash .hash-from .ensures,
-      ← nonce .nonce-from .ensures,
+      ← nonce .fresh-from .ensures,
       ← call .message .ensures,
       ← both .both .ensures,
     ) (last .end-entity-answered .ensures)

@@ -16,7 +16,7 @@ returns c =
       ← id-bytes .unpack-16 .ensures,
       ← nonce-bytes .unpack-162 .ensures,
       ← id .id-from .ensures,
-      ← nonce .nonce-from .ensures,
+      ← nonce .fresh-from .ensures,
       ← call .start .ensures,
       ← both .both .ensures,
     ) (last .start-answered .ensures)

@@ -8,4 +8,4 @@ confirm-spec = tie.close (tie.spec
     (λ c κs. search tests)
     (λ c κs. search tests)
     (λ c κs. search tests)
-    (λ c. search (tests, c .confirmed .ensures, c .before .cert-conf-out .ensures, c .before .before .decision-status .ensures, c .before .before .before .no-fault .ensures)))
+    (λ c. search (tests, c .confirmed .ensures, c .before .cert-conf .ensures, c .before .before .decision-status .ensures, c .before .before .before .no-fault .ensures)))

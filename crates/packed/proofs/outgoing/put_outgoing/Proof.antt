@@ -12,4 +12,4 @@ put-outgoing-spec =
     (λ c κs. search needs)
     (λ c κs. search needs)
     (λ c. search needs)
-    (λ c. next (c .before .before .before .before .before .before .put-names .ensures) refl (c .before .before .put-status .ensures)))
+    (λ c. next (c .before .before .before .before .before .before .put-names .ensures) refl (c .before .before .put-contents .ensures)))

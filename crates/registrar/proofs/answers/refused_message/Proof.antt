@@ -7,7 +7,7 @@ refused-message-spec = tie.close (tie.spec
     (λ c κs. search tests)
     (λ c κs. search tests)
     (λ c κs. search tests)
-    (λ c. search (tests, c .error-out .ensures, c .before .no-fault .ensures, c .before .before .before .bit-of .ensures))
+    (λ c. search (tests, c .error .ensures, c .before .no-fault .ensures, c .before .before .before .bit-of .ensures))
     (λ c κs. search tests)
     (λ c κs. search tests)
     (λ c. search (tests, c .silent .ensures, c .before .no-fault2 .ensures, c .before .before .before .bit-of .ensures)))

@@ -15,7 +15,7 @@ returns c =
     let found = held .before .before in
     let args = found .before .args in
     c .changed .ensures
-    ∙ quietly (args .table) (args .id) (found .find .ensures) (made .free-transaction .ensures)
+    ∙ quietly (args .table) (args .id) (found .find .ensures) (made .free .ensures)
     ∙ allowed (args .table) (args .id) (found .find .ensures) _ _
     (held .transaction-at .ensures) (held .before .if1 .taken) (tested .may-close .ensures) (made .before .if2 .taken)
 

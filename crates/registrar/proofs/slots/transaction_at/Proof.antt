@@ -19,4 +19,4 @@ transaction-at-spec = tie.close (tie.spec
     (λ c κs. tt)
     (λ c.
     let s = c .before .before in
-    c .free-transaction .ensures ∙ sym (getD-past (s .args .t1 .transactions) (s .args .slot .0) _ (rw (sized s) (c .before .if1 .left)))))
+    c .free .ensures ∙ sym (getD-past (s .args .t1 .transactions) (s .args .slot .0) _ (rw (sized s) (c .before .if1 .left)))))

@@ -15,7 +15,7 @@ returns c =
     let made = granted .before .before in
     let args = made .before .args in
     c .done-sending .ensures
-    ∙ confirm-moves (args .table) _ (args .held) _ _ _ (args .status) (made .pki-conf-out .ensures)
+    ∙ confirm-moves (args .table) _ (args .held) _ _ _ (args .status) (made .pki-conf .ensures)
     (placed .with-at .ensures) (next .settled-state .ensures) (moved .settled .ensures)
     (told (granted .before .is-granted .ensures) (granted .if1 .taken))
 
@@ -24,7 +24,7 @@ returns-2 c =
     let made = c .before .before .before in
     let args = made .before .args in
     c .again .ensures
-    ∙ confirm-again (args .table) _ (args .held) _ _ _ (args .status) (made .pki-conf-out .ensures)
+    ∙ confirm-again (args .table) _ (args .held) _ _ _ (args .status) (made .pki-conf .ensures)
     (told (c .before .before .is-granted .ensures) (c .before .if1 .left))
 
 pub confirm-spec : {M : Type 1} → statement M

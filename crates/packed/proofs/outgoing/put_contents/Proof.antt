@@ -1,14 +1,14 @@
 -- The parts are put in one after the other.
 use native.Mathlib.Omega.{arith}
 use borrow.Author.Needs.{needs}
-use Rattle.packed.specs.Outgoing.{packStatus}
+use Rattle.packed.specs.Outgoing.{packContents}
 use Rattle.packed.proofs.Copies.{next}
-use Rattle.packed.proofs.outgoing.put_status.Statement.{statement}
-use Rattle.packed.proofs.outgoing.put_status.Tie as tie
+use Rattle.packed.proofs.outgoing.put_contents.Statement.{statement}
+use Rattle.packed.proofs.outgoing.put_contents.Tie as tie
 
-pub put-status-spec : {M : Type 1} → statement M
-unfolding packStatus
-put-status-spec =
+pub put-contents-spec : {M : Type 1} → statement M
+unfolding packContents
+put-contents-spec =
     tie.close
     (tie.spec
     (λ c. search needs)

@@ -1,0 +1,11 @@
+use Rattle.der.proofs.Auto.{tests}
+use Rattle.protocol.proofs.Outgoing.cert_conf.Statement.{statement}
+use Rattle.protocol.proofs.Outgoing.cert_conf.Tie as tie
+
+pub cert-conf-spec : {M : Type 1} → statement M
+cert-conf-spec = tie.close (tie.spec
+    (λ c κs. search tests)
+    (λ c κs. search tests)
+    (λ c κs. search tests)
+    (λ c κs. search tests)
+    (λ c. search (tests, c .answer .ensures, c .before .with-hash .ensures, c .before .before .with-status .ensures, c .before .before .before .empty .ensures)))
