@@ -6,17 +6,32 @@
 use crate::ends::{
     CertHash, EndEntityAnswer, Nonce, Outcome, Outgoing, RegistrarAnswer, Slot, TransactionId,
 };
+use crate::limits::{HASH_BYTES, ID_BYTES, NONCE_BYTES};
 use crate::refusal::Refusal;
 use crate::types::Refused;
 
-/// The size of an outgoing message in an answer.
-const OUTGOING_BYTES: usize = 88;
+/// The size of the reader's fault in an answer: number, offset and rule.
+const FAULT_BYTES: usize = 1 + size_of::<u64>() + 1;
+
+/// The size of an answer's first part, the same at both ends: outcome, number,
+/// bit and fault.
+const OUTCOME_BYTES: usize = 3 + FAULT_BYTES;
+
+/// The size of all before the outgoing message: the registrar's has a slot, too,
+/// and both have whether there is such a message.
+const REGISTRAR_HEAD_BYTES: usize = OUTCOME_BYTES + 2;
+const END_ENTITY_HEAD_BYTES: usize = OUTCOME_BYTES + 1;
+
+/// The size of an outgoing message in an answer: kind, id, two nonces, the second
+/// one and the status with whether they are there, hash and failure.
+const OUTGOING_BYTES: usize =
+    1 + ID_BYTES + 2 * NONCE_BYTES + 2 + size_of::<u32>() + HASH_BYTES + 1;
 
 /// The size of the registrar's answer: its head and the outgoing message.
-pub const REGISTRAR_ANSWER_BYTES: usize = 15 + OUTGOING_BYTES;
+pub const REGISTRAR_ANSWER_BYTES: usize = REGISTRAR_HEAD_BYTES + OUTGOING_BYTES;
 
 /// The size of an end entity's answer.
-pub const END_ENTITY_ANSWER_BYTES: usize = 14 + OUTGOING_BYTES;
+pub const END_ENTITY_ANSWER_BYTES: usize = END_ENTITY_HEAD_BYTES + OUTGOING_BYTES;
 
 /// A bit's byte where there is none.
 const NO_BIT: u8 = 255;
@@ -44,7 +59,7 @@ pub const OUTSIDE_CONTRACT: EndEntityAnswer = EndEntityAnswer {
 };
 
 fn registrar_answer(number: u64, bytes: &[u8; REGISTRAR_ANSWER_BYTES]) -> Option<RegistrarAnswer> {
-    let (head, outgoing) = bytes.split_first_chunk::<15>()?;
+    let (head, outgoing) = bytes.split_first_chunk::<REGISTRAR_HEAD_BYTES>()?;
     let [rest @ .., slot, sends] = head;
     let outcome = outcome(number, rest)?;
     Some(RegistrarAnswer {
@@ -61,7 +76,7 @@ fn end_entity_answer(
     number: u64,
     bytes: &[u8; END_ENTITY_ANSWER_BYTES],
 ) -> Option<EndEntityAnswer> {
-    let (head, outgoing) = bytes.split_first_chunk::<14>()?;
+    let (head, outgoing) = bytes.split_first_chunk::<END_ENTITY_HEAD_BYTES>()?;
     let [rest @ .., sends] = head;
     Some(EndEntityAnswer {
         outcome: outcome(number, rest)?,
@@ -71,7 +86,7 @@ fn end_entity_answer(
 
 /// Outcome, number, bit and the reader's fault. The call gives the outcome as
 /// its number, too.
-fn outcome(call: u64, head: &[u8; 13]) -> Option<Outcome> {
+fn outcome(call: u64, head: &[u8; OUTCOME_BYTES]) -> Option<Outcome> {
     let [outcome, number, bit, fault @ ..] = head;
     if call != u64::from(*outcome) {
         return None;
@@ -92,7 +107,7 @@ fn bit_of(byte: u8) -> Option<u8> {
     (byte != NO_BIT).then_some(byte)
 }
 
-fn fault_of(bytes: &[u8; 10]) -> Option<Option<Refused>> {
+fn fault_of(bytes: &[u8; FAULT_BYTES]) -> Option<Option<Refused>> {
     let [number, offset @ .., rule] = bytes;
     if *number == 0 {
         return Some(None);

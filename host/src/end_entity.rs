@@ -60,13 +60,13 @@ impl EndEntity {
     /// others that are one.
     ///
     /// ```
-    /// use duskstall_host::EndEntity;
+    /// use duskstall_host::{EndEntity, ENROLMENT_BYTES};
     ///
-    /// let failed = [5; 82];
+    /// let failed = [5; ENROLMENT_BYTES];
     /// let board = EndEntity::from_bytes(&failed).expect("5 is a state");
     /// assert_eq!(board.as_bytes(), &failed);
-    /// assert_eq!(EndEntity::from_bytes(&[7; 82]), None);
-    /// assert_eq!(EndEntity::from_bytes(&[5; 81]), None);
+    /// assert_eq!(EndEntity::from_bytes(&[7; ENROLMENT_BYTES]), None);
+    /// assert_eq!(EndEntity::from_bytes(&[5; ENROLMENT_BYTES - 1]), None);
     /// ```
     pub fn from_bytes(bytes: &[u8]) -> Option<EndEntity> {
         let mut enrolment: [u8; ENROLMENT_BYTES] = bytes.try_into().ok()?;

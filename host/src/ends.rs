@@ -1,26 +1,28 @@
 //! The plain data that the registrar and the end entities are asked with and
 //! answer with, the same for the compiled library and for the model.
 
+use crate::limits::{HASH_BYTES, ID_BYTES, NONCE_BYTES};
 use crate::refusal::Refusal;
 use std::fmt;
 
 /// A transactionID.
 #[derive(Clone, Copy, Default, PartialEq, Eq, PartialOrd, Ord, Hash)]
-pub struct TransactionId(pub [u8; 16]);
+pub struct TransactionId(pub [u8; ID_BYTES]);
 
 /// A senderNonce or recipNonce.
 #[derive(Clone, Copy, Default, PartialEq, Eq, PartialOrd, Ord, Hash)]
-pub struct Nonce(pub [u8; 16]);
+pub struct Nonce(pub [u8; NONCE_BYTES]);
 
 /// The hash of a certificate, as a certConf names it.
 #[derive(Clone, Copy, Default, PartialEq, Eq, PartialOrd, Ord, Hash)]
-pub struct CertHash(pub [u8; 32]);
+pub struct CertHash(pub [u8; HASH_BYTES]);
 
 /// The number of a board.
 #[derive(Clone, Copy, Debug, Default, PartialEq, Eq, PartialOrd, Ord, Hash)]
 pub struct Board(pub u16);
 
-/// A place in the registrar's transaction table, 0 to 15.
+/// A place in the registrar's transaction table, from 0 and below
+/// [`SLOTS`](crate::SLOTS).
 #[derive(Clone, Copy, Debug, PartialEq, Eq, PartialOrd, Ord, Hash)]
 pub struct Slot(pub usize);
 

@@ -19,11 +19,9 @@ mod steps;
 #[cfg(test)]
 mod tests;
 
+use crate::limits::MESSAGE_LIMIT;
 use crate::types::{Reading, Refused};
 use der::{check_all, Elements};
-
-/// Refusal 1: a message has 1 to 16,384 bytes.
-const MESSAGE_LIMIT: usize = 16_384;
 
 /// The rules as M-107 numbers them: the four points of "DER as we take it",
 /// then the grammar.

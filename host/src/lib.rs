@@ -68,6 +68,7 @@ mod end_entity;
 mod ends;
 pub mod independent;
 pub mod library;
+mod limits;
 pub mod model;
 mod refusal;
 mod registrar;
@@ -81,11 +82,12 @@ pub use ends::{
     Board, CertHash, Decision, EndEntityAnswer, Nonce, Outcome, Outgoing, RegistrarAnswer, Slot,
     TransactionId, Verdict,
 };
+pub use limits::{HASH_BYTES, ID_BYTES, MESSAGE_LIMIT, NONCE_BYTES, SLOTS};
 pub use refusal::Refusal;
 pub use registrar::Registrar;
 pub use states::{
     Enrolment, EnrolmentState, Transaction, TransactionState, ENROLMENT_BYTES, ENROLMENT_STATES,
-    SLOTS, TABLE_BYTES, TRANSACTION_BYTES, TRANSACTION_STATES,
+    TABLE_BYTES, TRANSACTION_BYTES, TRANSACTION_STATES,
 };
 pub use types::{Reading, Refused, Span};
 

@@ -59,10 +59,11 @@ pub fn check(bytes: &[u8]) -> u64 {
 /// and the longest message (5); 0 for any other number.
 ///
 /// ```
-/// use duskstall_host::{library, ENROLMENT_BYTES, TABLE_BYTES};
+/// use duskstall_host::{library, ENROLMENT_BYTES, MESSAGE_LIMIT, TABLE_BYTES};
 ///
 /// assert_eq!(library::size(0), TABLE_BYTES as u64);
 /// assert_eq!(library::size(1), ENROLMENT_BYTES as u64);
+/// assert_eq!(library::size(5), MESSAGE_LIMIT as u64);
 /// assert_eq!(library::size(6), 0);
 /// ```
 pub fn size(what: u8) -> u64 {

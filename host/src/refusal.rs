@@ -1,5 +1,6 @@
 //! Refusals: the number and bit of the table in document 01, and its words.
 
+use crate::limits;
 use crate::types::Refused;
 use std::error::Error;
 use std::fmt;
@@ -36,7 +37,7 @@ impl Refusal {
     /// The table's words for the number.
     pub fn reason(&self) -> &'static str {
         match self.number {
-            1 => "length 0 or above 16,384",
+            1 => limits::REFUSED_LENGTH,
             2 => "not DER or not the grammar",
             3 => "pvno not 2 or 3",
             4 => "transactionID absent or not 16 bytes",

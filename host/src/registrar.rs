@@ -5,7 +5,8 @@ use crate::ends::{CertHash, Nonce, RegistrarAnswer, Slot, TransactionId, Verdict
 use crate::library;
 use crate::states::{Transaction, TransactionState, TABLE_BYTES, TRANSACTION_BYTES};
 
-/// A registrar with its table of sixteen transactions, in the library's bytes.
+/// A registrar with its table of [`SLOTS`](crate::SLOTS) transactions, in the
+/// library's bytes.
 ///
 /// Every call answers, whatever it is given. A refused call leaves the table
 /// as it was.
@@ -63,11 +64,11 @@ impl Registrar {
     /// that are one.
     ///
     /// ```
-    /// use duskstall_host::Registrar;
+    /// use duskstall_host::{Registrar, TABLE_BYTES};
     ///
     /// let registrar = Registrar::new();
     /// assert_eq!(Registrar::from_bytes(registrar.as_bytes()), Some(registrar));
-    /// assert_eq!(Registrar::from_bytes(&[0xFF; 1344]), None);
+    /// assert_eq!(Registrar::from_bytes(&[0xFF; TABLE_BYTES]), None);
     /// assert_eq!(Registrar::from_bytes(&[]), None);
     /// ```
     pub fn from_bytes(bytes: &[u8]) -> Option<Registrar> {

@@ -2,18 +2,17 @@
 //! boundary: fields in order, numbers big-endian.
 
 use crate::ends::{Board, CertHash, Nonce, TransactionId};
+use crate::limits::{HASH_BYTES, ID_BYTES, NONCE_BYTES, SLOTS};
 
-/// How many transactions the registrar's table holds.
-pub const SLOTS: usize = 16;
-
-/// The size of a packed transaction.
-pub const TRANSACTION_BYTES: usize = 84;
+/// The size of a packed transaction: id, board, kind, two nonces, hash and state.
+pub const TRANSACTION_BYTES: usize =
+    ID_BYTES + size_of::<u16>() + 1 + 2 * NONCE_BYTES + HASH_BYTES + 1;
 
 /// The size of the packed table.
 pub const TABLE_BYTES: usize = SLOTS * TRANSACTION_BYTES;
 
-/// The size of a packed enrolment.
-pub const ENROLMENT_BYTES: usize = 82;
+/// The size of a packed enrolment: id, kind, two nonces, hash and state.
+pub const ENROLMENT_BYTES: usize = ID_BYTES + 1 + 2 * NONCE_BYTES + HASH_BYTES + 1;
 
 /// Where a transaction of the registrar is.
 #[derive(Clone, Copy, Debug, Default, PartialEq, Eq, PartialOrd, Ord)]

@@ -6,13 +6,23 @@ use super::{ACCEPTED, CERT_CONF, ERROR, P10CR, PKICONF, REJECTION};
 use crate::ends::{
     Board, CertHash, Nonce, Outcome, Outgoing, RegistrarAnswer, Slot, TransactionId, Verdict,
 };
+use crate::limits::SLOTS;
 use crate::refusal::Refusal;
-use crate::states::{Transaction, TransactionState, SLOTS};
+use crate::states::{Transaction, TransactionState};
 
 /// The registrar.
-#[derive(Clone, Debug, Default, PartialEq, Eq)]
+#[derive(Clone, Debug, PartialEq, Eq)]
 pub struct Registrar {
     pub transactions: [Transaction; SLOTS],
+}
+
+/// The empty table. Written out, as Rust derives it for up to 32 slots only.
+impl Default for Registrar {
+    fn default() -> Self {
+        Registrar {
+            transactions: [Transaction::default(); SLOTS],
+        }
+    }
 }
 
 /// What a call that is not refused gives.

@@ -3,6 +3,7 @@
 
 use super::{assert_fault, assert_faults, clean, REFUSED_BY_SIZE};
 use crate::independent::{check_elements, read};
+use crate::limits::MESSAGE_LIMIT;
 use crate::testing::der::{hex, nest, show, Node};
 use crate::testing::messages::{bare, body, header, message, name, request_message, status_info};
 use crate::testing::papers::{self, dozen, sample};
@@ -191,7 +192,7 @@ fn contents_are_held_to_point_four() {
 
 #[test]
 fn size_decides_before_all_else() {
-    let mut bytes = vec![0; 16_384];
+    let mut bytes = vec![0; MESSAGE_LIMIT];
     assert_fault(&bytes, 0, 1);
     bytes.push(0);
     assert_eq!(read(&bytes), REFUSED_BY_SIZE);

@@ -2,6 +2,7 @@
 
 use super::{assert_fault, clean};
 use crate::independent::read;
+use crate::limits::MESSAGE_LIMIT;
 use crate::testing::der::Node;
 use crate::testing::messages::*;
 use crate::testing::papers::sample;
@@ -211,7 +212,7 @@ fn bases_and_whole_random_messages_are_clean() {
     let mut random = Random::new(1);
     for _ in 0..20_000 {
         let message = random::message(&mut random);
-        if message.encoded_len() <= 16_384 {
+        if message.encoded_len() <= MESSAGE_LIMIT {
             clean(&message);
         }
     }

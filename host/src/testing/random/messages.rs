@@ -3,6 +3,7 @@
 use super::elements::{bits, generic, generics, integer, list, maybe, mostly_some};
 use super::elements::{octets, oid, opaque, small_integer};
 use super::Random;
+use crate::limits::MESSAGE_LIMIT;
 use crate::testing::der::{nest, Node};
 use crate::testing::messages::{LAST_KIND, OPTIONAL_FIELDS};
 
@@ -26,7 +27,7 @@ pub fn message(random: &mut Random) -> Node {
 fn enlarge(message: &mut Node, random: &mut Random) {
     set_body(message, Node::explicit(5, Node::octets(&[])));
     // The length forms grow by some bytes themselves.
-    let size = (16_384 - random.below(16)).saturating_sub(message.encoded_len());
+    let size = (MESSAGE_LIMIT - random.below(16)).saturating_sub(message.encoded_len());
     let filler = random.bytes(size);
     set_body(message, Node::explicit(5, Node::octets(&filler)));
 }
