@@ -13,7 +13,7 @@ fn input(name: &str) -> Option<(Vec<u8>, bool)> {
     match name {
         "certConf" => Some((CERT_CONF.to_vec(), false)),
         "1.5K" => Some((chain_message(1_536), false)),
-        "16K" => Some((chain_message(16_384), false)),
+        "16K" => Some((chain_message(16 * 1_024), false)),
         "run" => Some((chain_run(40 * 1_024), true)),
         _ => None,
     }

@@ -5,6 +5,8 @@ use duskstall_host::testing::chains::{chain_message, chain_run, even_message};
 use duskstall_host::{compiled, independent, Reading, Refused};
 use std::hint::black_box;
 
+const KIB: usize = 1_024;
+
 /// Bytes read in each batch, by as many calls as that takes.
 const BATCH: usize = 400_000;
 
@@ -17,10 +19,10 @@ const CORPUS: [&[u8]; 3] = [
 ];
 
 /// About the sizes of the messages whose cost is set against their length.
-const LENGTHS: [usize; 5] = [1_024, 2_048, 4_096, 8_192, 16_384];
+const LENGTHS: [usize; 5] = [KIB, 2 * KIB, 4 * KIB, 8 * KIB, 16 * KIB];
 
 pub fn messages() {
-    for size in [1_536, 16_384] {
+    for size in [KIB + KIB / 2, 16 * KIB] {
         compare_reading("read", &chain_message(size));
     }
     for message in CORPUS {
@@ -30,7 +32,7 @@ pub fn messages() {
 
 /// Runs of elements, which may be longer than a message.
 pub fn runs() {
-    for size in [16 * 1_024, 40 * 1_024] {
+    for size in [16 * KIB, 40 * KIB] {
         let run = chain_run(size);
         assert_eq!(compiled::check_number(&run), 0);
         assert_eq!(independent::check_elements(&run), None);

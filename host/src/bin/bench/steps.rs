@@ -9,7 +9,7 @@ use duskstall_host::testing::chains::chain_message;
 use duskstall_host::testing::exchange::Parts;
 use duskstall_host::{Board, CertHash, Decision, EndEntity, Nonce, Outgoing, Registrar};
 use duskstall_host::{TransactionId, Verdict, END_ENTITY_ANSWER_BYTES};
-use duskstall_host::{REGISTRAR_ANSWER_BYTES, SLOTS};
+use duskstall_host::{MESSAGE_LIMIT, REGISTRAR_ANSWER_BYTES, SLOTS};
 use std::hint::black_box;
 
 /// Steps in each batch.
@@ -94,8 +94,8 @@ pub fn at_registrar() {
     message_step("certConf refused", &unknown, &cert_conf, REFUSED);
 }
 
-/// A response with a certificate, which a certConf answers, short and long; and
-/// the pkiConf that ends it.
+/// A response with a certificate, which a certConf answers, short and as long as
+/// a message may be; and the pkiConf that ends it.
 pub fn at_end_entity() {
     let Messages {
         response, pkiconf, ..
@@ -108,7 +108,8 @@ pub fn at_end_entity() {
     // The id and the recipNonce in its header.
     let [id, nonce] = [[4; 16], [6; 16]];
     let (end_entity, _) = EndEntity::start(0, TransactionId(id), Nonce(nonce)).expect("an ir");
-    board_step("ip at an end entity", &end_entity, &chain_message(16_384));
+    let longest = chain_message(MESSAGE_LIMIT);
+    board_step("ip at an end entity", &end_entity, &longest);
 }
 
 /// A message at a registrar, which gives this number.
