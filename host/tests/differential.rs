@@ -14,6 +14,3 @@ mod places;
 mod sizes;
 #[path = "differential/tally.rs"]
 mod tally;
-
-/// The largest message, "1 to 16,384 bytes".
-const LIMIT: usize = 16_384;

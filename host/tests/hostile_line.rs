@@ -1,6 +1,6 @@
-//! Demand 3 on the compiled code: one registrar, sixteen boards and a line that
-//! loses, repeats, reorders, alters and invents messages and hands them to the
-//! wrong end. After every call the five claims are checked.
+//! Demand 3 on the compiled code: one registrar, as many boards as it has slots
+//! and a line that loses, repeats, reorders, alters and invents messages and hands
+//! them to the wrong end. After every call the five claims are checked.
 
 #[path = "hostile_line/claims.rs"]
 mod claims;
@@ -18,13 +18,15 @@ mod world;
 use claims::Claims;
 use coverage::Coverage;
 use duskstall_host::testing::random::Random;
+use duskstall_host::SLOTS;
 use line::{Line, Verdicts};
 use std::collections::BTreeSet;
 use std::time::Instant;
 use world::World;
 
-/// Calls in one list, which starts with an empty table and no enrolment.
-const LIST: usize = 400;
+/// Calls in one list, which starts with an empty table and no enrolment: enough
+/// to fill the table.
+const LIST: usize = 25 * SLOTS;
 
 /// Runs lists of calls and checks the claims after each.
 fn run(calls: usize, seed: u64, verdicts: Verdicts) -> (Claims, Coverage) {

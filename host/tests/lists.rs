@@ -11,7 +11,7 @@ mod scene;
 use duskstall_host::testing::ends::{Compiled, Ends, Model};
 use duskstall_host::testing::exchange::Parts;
 use duskstall_host::{CertHash, Decision, EnrolmentState, Nonce, TransactionId};
-use duskstall_host::{TransactionState, Verdict};
+use duskstall_host::{TransactionState, Verdict, SLOTS};
 use scene::{changed, good, hash, id, Scene};
 
 /// A board with number 1 and id X1 whose certConf is on the line, with its
@@ -180,22 +180,24 @@ fn stripped_rejection<E: Ends>() {
 /// List 10: A full table, and a slot that is used again.
 fn full_table<E: Ends>() {
     let mut scene = Scene::<E>::new();
-    let requests: Vec<Parts> = (0..=16).map(|number| scene.start(id(number))).collect();
-    for (board, request) in requests[..16].iter().enumerate() {
+    let ids: Vec<TransactionId> = (0..=SLOTS as u8).map(id).collect();
+    let requests: Vec<Parts> = ids.iter().map(|id| scene.start(*id)).collect();
+    for (board, request) in requests[..SLOTS].iter().enumerate() {
         scene.opens(request, board, board);
     }
-    let last = &requests[16];
+    // The board after those that have taken all slots.
+    let (board, last) = (SLOTS, &requests[SLOTS]);
     let double = changed(last, |parts| parts.entries = 2);
-    scene.refuses(&double, good(16), 11, 24);
-    let error = scene.refuses(last, good(16), 11, 24);
-    scene.board_takes(16, &error, EnrolmentState::Failed);
+    scene.refuses(&double, good(board), 11, 24);
+    let error = scene.refuses(last, good(board), 11, 24);
+    scene.board_takes(board, &error, EnrolmentState::Failed);
     let refusing = scene.refuse(id(3));
     scene.close(id(3));
-    scene.opens(last, 16, 3);
-    let response = scene.issue(id(16), hash(1));
-    scene.board_refuses(16, &response, 20);
+    scene.opens(last, board, 3);
+    let response = scene.issue(ids[board], hash(1));
+    scene.board_refuses(board, &response, 20);
     scene.board_takes(3, &refusing, EnrolmentState::Failed);
-    scene.registrar_says(id(16), TransactionState::Granted);
+    scene.registrar_says(ids[board], TransactionState::Granted);
 }
 
 /// After a time out at Asked nothing is taken any more.

@@ -5,7 +5,7 @@ use duskstall_host::independent;
 use duskstall_host::testing::corpus::corpus;
 use duskstall_host::testing::messages::{bare, body};
 use duskstall_host::testing::papers::sample;
-use duskstall_host::Span;
+use duskstall_host::{Span, MESSAGE_LIMIT};
 use std::fs::File;
 use std::io::Write;
 use std::path::Path;
@@ -69,8 +69,8 @@ fn same(message: &[u8]) -> String {
 fn program_at_the_limits() {
     assert_eq!(same(&[]), "refused 1\n");
     assert_eq!(same(&[0x30]), "refused 2\n");
-    assert_eq!(same(&[0; 16_384]), "refused 2\n");
-    assert_eq!(same(&[0; 16_385]), "refused 1\n");
+    assert_eq!(same(&[0; MESSAGE_LIMIT]), "refused 2\n");
+    assert_eq!(same(&[0; MESSAGE_LIMIT + 1]), "refused 1\n");
     assert_eq!(same(&[0; 100_000]), "refused 1\n");
     let sample = sample();
     for end in 1..sample.len() {

@@ -4,6 +4,7 @@
 use super::pool::Pool;
 use duskstall_host::testing::exchange::{Certificate, Parts};
 use duskstall_host::testing::random::{self, Random};
+use duskstall_host::MESSAGE_LIMIT;
 
 /// The message, in two of three cases with one or two parts changed.
 pub fn changed(mut parts: Parts, random: &mut Random, pool: &Pool) -> Parts {
@@ -76,6 +77,6 @@ pub fn damaged(parts: Parts, random: &mut Random) -> Vec<u8> {
 /// Near the largest size, on both sides of it.
 fn too_long(parts: Parts, random: &mut Random) -> Vec<u8> {
     let mut bytes = parts.encode();
-    bytes.resize(16_384 - 2 + random.below(4), 0);
+    bytes.resize(MESSAGE_LIMIT - 2 + random.below(4), 0);
     bytes
 }

@@ -1,10 +1,10 @@
 //! Small pools of values, so that calls and states meet.
 
 use duskstall_host::testing::random::Random;
-use duskstall_host::{CertHash, Nonce, TransactionId};
+use duskstall_host::{CertHash, Nonce, TransactionId, SLOTS};
 
 /// Values that are used again and again. Zeros are among them, and an id that
-/// is a nonce too.
+/// is a nonce too. There are a few more ids than a table has room for.
 pub struct Pool {
     pub ids: Vec<[u8; 16]>,
     pub nonces: Vec<[u8; 16]>,
@@ -14,7 +14,7 @@ pub struct Pool {
 impl Pool {
     pub fn new(random: &mut Random) -> Pool {
         let mut ids = vec![[0; 16]];
-        ids.extend((0..19).map(|_| array(random)));
+        ids.extend((0..SLOTS + 3).map(|_| array(random)));
         let mut nonces = vec![[0; 16], ids[1]];
         nonces.extend((0..6).map(|_| array(random)));
         let mut hashes = vec![[0; 32]];

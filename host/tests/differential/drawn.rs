@@ -1,9 +1,9 @@
 //! Messages drawn at random, whole and damaged.
 
 use super::tally::Tally;
-use super::LIMIT;
 use duskstall_host::testing::der::Node;
 use duskstall_host::testing::random::{self, Random};
+use duskstall_host::MESSAGE_LIMIT;
 use std::time::Instant;
 
 #[test]
@@ -18,7 +18,7 @@ fn two_million_random_messages() {
         if random.once_in(2) {
             let bytes = message.encode();
             let answer = tally.message(&bytes);
-            assert_eq!(answer.is_ok(), bytes.len() <= LIMIT);
+            assert_eq!(answer.is_ok(), bytes.len() <= MESSAGE_LIMIT);
             whole += 1;
             continue;
         }

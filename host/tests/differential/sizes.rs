@@ -1,10 +1,9 @@
 //! Short inputs, all of them; nests and lengths.
 
 use super::tally::Tally;
-use super::LIMIT;
 use duskstall_host::testing::der::{hex, nest, LengthForm, Node, LENGTH_FORMS};
 use duskstall_host::testing::messages::*;
-use duskstall_host::Refused;
+use duskstall_host::{Refused, MESSAGE_LIMIT};
 
 #[test]
 fn every_input_of_up_to_three_bytes() {
@@ -80,17 +79,17 @@ fn nest_at(base: &Node, number: usize, deepest: usize, innermost: &[u8], tally: 
 fn whole_messages_of_critical_sizes() {
     let mut tally = Tally::default();
     // No element is 130 or 259 bytes long: there the length form grows.
-    let sizes = (100..=400).chain(LIMIT - 6..=LIMIT + 6);
+    let sizes = (100..=400).chain(MESSAGE_LIMIT - 6..=MESSAGE_LIMIT + 6);
     for size in sizes.filter(|size| ![130, 259].contains(size)) {
         for form in LENGTH_FORMS {
             let bytes = message_of_size(size, form);
-            let clean = form == LengthForm::Shortest && size <= LIMIT;
+            let clean = form == LengthForm::Shortest && size <= MESSAGE_LIMIT;
             assert!(bytes.is_some() || form != LengthForm::Shortest);
             if let Some(bytes) = bytes {
                 let answer = tally.message(&bytes);
                 assert!(answer.is_ok() || !clean, "{size} {answer:?}");
                 let by_size = matches!(answer, Err(Refused { number: 1, .. }));
-                assert_eq!(by_size, size > LIMIT);
+                assert_eq!(by_size, size > MESSAGE_LIMIT);
             }
         }
     }
@@ -130,16 +129,17 @@ fn inner_elements_of_critical_sizes() {
         255,
         256,
         257,
-        16_000,
-        LIMIT,
-        LIMIT + 1,
+        // With room for the message around it.
+        MESSAGE_LIMIT - 384,
+        MESSAGE_LIMIT,
+        MESSAGE_LIMIT + 1,
     ] {
         let wrong = [size.saturating_sub(1), size + 1, size + 2, 0].map(LengthForm::Wrong);
         for form in LENGTH_FORMS.iter().chain(&wrong) {
             for message in messages_with(size, *form) {
                 let bytes = message.encode();
                 let answer = tally.message(&bytes);
-                if *form == LengthForm::Shortest && size > 1 && bytes.len() <= LIMIT {
+                if *form == LengthForm::Shortest && size > 1 && bytes.len() <= MESSAGE_LIMIT {
                     assert!(answer.is_ok(), "{size} {answer:?}");
                 }
             }

@@ -3,7 +3,7 @@
 use super::world::World;
 use duskstall_host::testing::exchange::{Certificate, Parts};
 use duskstall_host::testing::random::{self, Random};
-use duskstall_host::CertHash;
+use duskstall_host::{CertHash, MESSAGE_LIMIT};
 
 /// A drawn number, or one of the next.
 pub fn any_number(drawn: u128, random: &mut Random) -> [u8; 16] {
@@ -85,7 +85,7 @@ pub fn damage(parts: &Parts, random: &mut Random) -> Vec<u8> {
     let mut bytes = parts.encode();
     match random.below(8) {
         0 => bytes.clear(),
-        1 => bytes.resize(16_385, 0),
+        1 => bytes.resize(MESSAGE_LIMIT + 1, 0),
         _ => random::damage_bytes(&mut bytes, random),
     }
     bytes

@@ -7,13 +7,13 @@ use super::history::Sender;
 use super::world::World;
 use duskstall_host::testing::exchange::Parts;
 use duskstall_host::testing::random::Random;
-use duskstall_host::{Board, Decision, TransactionId, TransactionState, Verdict};
+use duskstall_host::{Board, Decision, TransactionId, TransactionState, Verdict, SLOTS};
 
 /// How many boards there are.
-const BOARDS: usize = 16;
+const BOARDS: usize = SLOTS;
 
-/// How many enrolments a list has at most.
-const ENROLMENTS: usize = 40;
+/// How many enrolments a list has at most: more than the table has room for.
+const ENROLMENTS: usize = 5 * SLOTS / 2;
 
 /// Whether verdicts are as demand 3 supposes, or mostly good whatever came.
 #[derive(Clone, Copy, PartialEq, Eq)]

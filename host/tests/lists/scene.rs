@@ -17,7 +17,7 @@ pub struct Scene<E: Ends> {
     registrar: E::Registrar,
     boards: Vec<E::EndEntity>,
     /// How many nonces were drawn: no two are the same.
-    drawn: u8,
+    drawn: u128,
 }
 
 /// The id X with this number.
@@ -52,7 +52,7 @@ impl<E: Ends> Scene<E> {
 
     fn draw(&mut self) -> Nonce {
         self.drawn += 1;
-        Nonce([0x40 + self.drawn; 16])
+        Nonce((u128::MAX - self.drawn).to_be_bytes())
     }
 
     // At the boards.
