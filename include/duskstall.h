@@ -13,10 +13,10 @@
  *       it is Confirming          -- certConf ------------>     message: Confirmed  (or Declined)
  *     message: it is Sure         <-- pkiConf -------------     close: the slot is Free again
  *
- * The registrar has a table of 16 transactions, each in a slot; an end entity has one enrolment. Both are plain bytes
- * that the host lends to a call. A call reads what it is handed, decides, moves the state and writes an answer: how it
- * ended and, if a message is to be sent, what it says ("outgoing"). A refused call says why, by a number, and leaves
- * the state as it was: LentDemand1 in crates/lent/specs, of whatever bytes are lent.
+ * The registrar has a table of DUSKSTALL_SLOTS transactions, each in a slot; an end entity has one enrolment. Both are
+ * plain bytes that the host lends to a call. A call reads what it is handed, decides, moves the state and writes an
+ * answer: how it ended and, if a message is to be sent, what it says ("outgoing"). A refused call says why, by a
+ * number, and leaves the state as it was: LentDemand1 in crates/lent/specs, of whatever bytes are lent.
  *
  * WHAT THE HOST DOES ITSELF
  *

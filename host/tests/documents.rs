@@ -1,10 +1,12 @@
-//! The documents name what is there: each name in docs/ is found in the tree; docs/PROMISES.md names each wrong answer of
-//! the must-fail edits, and each public function with two of them. And what the sources keep to: public functions require
-//! nothing, and functions are small.
+//! The documents name what is there: each name in docs/ is found in the tree, and a limit is the one that holds;
+//! docs/PROMISES.md names each wrong answer of the must-fail edits, and each public function with two of them. And what the
+//! sources keep to: public functions require nothing, and functions are small.
 
 #[path = "documents/tree.rs"]
 mod tree;
 
+use duskstall_host::testing::papers::with_comma;
+use duskstall_host::{MESSAGE_LIMIT, SLOTS};
 use std::collections::BTreeSet;
 use tree::{
     all_functions, all_labels, crate_of, edits, files, labels, names_of_the_tree, quoted, root,
@@ -26,8 +28,12 @@ fn missing_names(document: &str, names: &BTreeSet<String>) -> (BTreeSet<String>,
     (missing, looked_at)
 }
 
+fn document(name: &str) -> String {
+    text(&root().join("docs").join(name))
+}
+
 fn promises() -> String {
-    text(&root().join("docs/PROMISES.md"))
+    document("PROMISES.md")
 }
 
 #[test]
@@ -42,6 +48,21 @@ fn documents_name_what_exists() {
         all_missing.extend(missing);
     }
     assert!(all_missing.is_empty(), "not in the tree: {all_missing:#?}");
+}
+
+/// The texts that name a limit by its number.
+#[test]
+fn documents_name_the_limits() {
+    let [limit, above] = [MESSAGE_LIMIT, MESSAGE_LIMIT + 1].map(with_comma);
+    for (name, expected) in [
+        ("DIFFERENCES.md", format!("Here 1 to {limit} bytes")),
+        ("DIFFERENCES.md", format!("Here {SLOTS} transactions")),
+        ("PROMISES.md", format!("table has {SLOTS} transactions")),
+        ("PROMISES.md", format!("of 1 to {limit} bytes at both ends")),
+        ("PROMISES.md", format!("0, 1, {limit} and {above} tried")),
+    ] {
+        assert!(document(name).contains(&expected), "{expected} in {name}");
+    }
 }
 
 #[test]

@@ -7,10 +7,11 @@ mod refusals;
 
 use duskstall_host::testing::der::hex;
 use duskstall_host::testing::messages;
+use duskstall_host::testing::papers::with_comma;
 use duskstall_host::{compiled, library, Board, CertHash, Nonce, Refusal, TransactionId};
 use duskstall_host::{Enrolment, Reading, Span, Transaction, ENROLMENT_STATES, TRANSACTION_STATES};
 use duskstall_host::{END_ENTITY_ANSWER_BYTES, ENROLMENT_BYTES, REGISTRAR_ANSWER_BYTES};
-use duskstall_host::{SLOTS, TABLE_BYTES, TRANSACTION_BYTES};
+use duskstall_host::{MESSAGE_LIMIT, SLOTS, TABLE_BYTES, TRANSACTION_BYTES};
 use std::collections::{BTreeMap, BTreeSet};
 use std::fmt::Debug;
 
@@ -51,6 +52,7 @@ fn factor(factor: &str) -> usize {
 fn sizes_and_codes() {
     let code = |code: u64| code as usize;
     for (name, expected) in [
+        ("MESSAGE_LIMIT", MESSAGE_LIMIT),
         ("SLOTS", SLOTS),
         ("TRANSACTION_BYTES", TRANSACTION_BYTES),
         ("TABLE_BYTES", TABLE_BYTES),
@@ -258,6 +260,8 @@ fn rows() -> Vec<(u8, Option<u8>, &'static str)> {
 
 #[test]
 fn refusals_in_words() {
+    let limit = with_comma(MESSAGE_LIMIT);
+    assert_eq!(rows()[0].2, format!("length 0 or above {limit}"));
     for (number, bit, words) in rows() {
         let refusal = Refusal {
             number,

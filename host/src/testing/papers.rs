@@ -1,5 +1,6 @@
 //! The examples that the papers give: the sample message, the dozen elements,
-//! and faults with the offset and the rule they are shown by.
+//! and faults with the offset and the rule they are shown by. And how the papers
+//! write a number.
 
 use super::der::hex;
 
@@ -35,6 +36,11 @@ pub fn dozen() -> ([Vec<u8>; 5], [Vec<u8>; 7]) {
         ]
         .map(hex),
     )
+}
+
+/// A number of four to six digits as the papers write it, with a comma.
+pub fn with_comma(number: usize) -> String {
+    format!("{},{:03}", number / 1_000, number % 1_000)
 }
 
 /// A message that refusal 2 has to name by this offset and rule.
