@@ -1,6 +1,53 @@
--- The places that the C header names, each the one before and its width: said here anew, apart from those of the code.
+-- The places that the C header names, each the one before and its width: said here anew, widths too, apart from those of the code.
 use Prim.Native.Nat.{ℕ, _+_}
-use Rattle.packed.specs.Places.{idBytes, nonceBytes, hashBytes, boardBytes, kindBytes, flagBytes, statusBytes, bitBytes, codeBytes, refusalBytes, faultBytes, offsetBytes, ruleBytes, slotBytes}
+
+-- ## Widths in bytes
+
+abbrev pub idWidth : ℕ
+idWidth = 16
+
+abbrev pub nonceWidth : ℕ
+nonceWidth = 16
+
+-- a nonce that the host hands in
+abbrev pub freshWidth : ℕ
+freshWidth = 16
+
+abbrev pub hashWidth : ℕ
+hashWidth = 32
+
+abbrev pub boardWidth : ℕ
+boardWidth = 2
+
+abbrev pub kindWidth : ℕ
+kindWidth = 1
+
+abbrev pub flagWidth : ℕ
+flagWidth = 1
+
+abbrev pub statusWidth : ℕ
+statusWidth = 4
+
+abbrev pub bitWidth : ℕ
+bitWidth = 1
+
+abbrev pub codeWidth : ℕ
+codeWidth = 1
+
+abbrev pub refusalWidth : ℕ
+refusalWidth = 1
+
+abbrev pub faultWidth : ℕ
+faultWidth = 1
+
+abbrev pub offsetWidth : ℕ
+offsetWidth = 8
+
+abbrev pub ruleWidth : ℕ
+ruleWidth = 1
+
+abbrev pub slotNumberWidth : ℕ
+slotNumberWidth = 1
 
 -- ## DUSKSTALL_TRANSACTION_*
 
@@ -8,22 +55,22 @@ abbrev pub transactionIdPlace : ℕ
 transactionIdPlace = 0
 
 abbrev pub transactionBoardPlace : ℕ
-transactionBoardPlace = transactionIdPlace + idBytes
+transactionBoardPlace = transactionIdPlace + idWidth
 
 abbrev pub transactionKindPlace : ℕ
-transactionKindPlace = transactionBoardPlace + boardBytes
+transactionKindPlace = transactionBoardPlace + boardWidth
 
 abbrev pub transactionTakenPlace : ℕ
-transactionTakenPlace = transactionKindPlace + kindBytes
+transactionTakenPlace = transactionKindPlace + kindWidth
 
 abbrev pub transactionSentPlace : ℕ
-transactionSentPlace = transactionTakenPlace + nonceBytes
+transactionSentPlace = transactionTakenPlace + nonceWidth
 
 abbrev pub transactionHashPlace : ℕ
-transactionHashPlace = transactionSentPlace + nonceBytes
+transactionHashPlace = transactionSentPlace + nonceWidth
 
 abbrev pub transactionStatePlace : ℕ
-transactionStatePlace = transactionHashPlace + hashBytes
+transactionStatePlace = transactionHashPlace + hashWidth
 
 -- ## DUSKSTALL_ENROLMENT_*
 
@@ -31,19 +78,19 @@ abbrev pub enrolmentIdPlace : ℕ
 enrolmentIdPlace = 0
 
 abbrev pub enrolmentKindPlace : ℕ
-enrolmentKindPlace = enrolmentIdPlace + idBytes
+enrolmentKindPlace = enrolmentIdPlace + idWidth
 
 abbrev pub enrolmentLastPlace : ℕ
-enrolmentLastPlace = enrolmentKindPlace + kindBytes
+enrolmentLastPlace = enrolmentKindPlace + kindWidth
 
 abbrev pub enrolmentTakenPlace : ℕ
-enrolmentTakenPlace = enrolmentLastPlace + nonceBytes
+enrolmentTakenPlace = enrolmentLastPlace + nonceWidth
 
 abbrev pub enrolmentHashPlace : ℕ
-enrolmentHashPlace = enrolmentTakenPlace + nonceBytes
+enrolmentHashPlace = enrolmentTakenPlace + nonceWidth
 
 abbrev pub enrolmentStatePlace : ℕ
-enrolmentStatePlace = enrolmentHashPlace + hashBytes
+enrolmentStatePlace = enrolmentHashPlace + hashWidth
 
 -- ## DUSKSTALL_OUTGOING_*
 
@@ -51,25 +98,25 @@ abbrev pub outgoingKindPlace : ℕ
 outgoingKindPlace = 0
 
 abbrev pub outgoingIdPlace : ℕ
-outgoingIdPlace = outgoingKindPlace + kindBytes
+outgoingIdPlace = outgoingKindPlace + kindWidth
 
 abbrev pub outgoingSenderNoncePlace : ℕ
-outgoingSenderNoncePlace = outgoingIdPlace + idBytes
+outgoingSenderNoncePlace = outgoingIdPlace + idWidth
 
 abbrev pub outgoingHasRecipNoncePlace : ℕ
-outgoingHasRecipNoncePlace = outgoingSenderNoncePlace + nonceBytes
+outgoingHasRecipNoncePlace = outgoingSenderNoncePlace + nonceWidth
 
 abbrev pub outgoingRecipNoncePlace : ℕ
-outgoingRecipNoncePlace = outgoingHasRecipNoncePlace + flagBytes
+outgoingRecipNoncePlace = outgoingHasRecipNoncePlace + flagWidth
 
 abbrev pub outgoingHasStatusPlace : ℕ
-outgoingHasStatusPlace = outgoingRecipNoncePlace + nonceBytes
+outgoingHasStatusPlace = outgoingRecipNoncePlace + nonceWidth
 
 abbrev pub outgoingStatusPlace : ℕ
-outgoingStatusPlace = outgoingHasStatusPlace + flagBytes
+outgoingStatusPlace = outgoingHasStatusPlace + flagWidth
 
 abbrev pub outgoingHashPlace : ℕ
-outgoingHashPlace = outgoingStatusPlace + statusBytes
+outgoingHashPlace = outgoingStatusPlace + statusWidth
 
 -- ## DUSKSTALL_ANSWER_*
 
@@ -77,35 +124,35 @@ abbrev pub answerCodePlace : ℕ
 answerCodePlace = 0
 
 abbrev pub answerRefusalPlace : ℕ
-answerRefusalPlace = answerCodePlace + codeBytes
+answerRefusalPlace = answerCodePlace + codeWidth
 
 abbrev pub answerBitPlace : ℕ
-answerBitPlace = answerRefusalPlace + refusalBytes
+answerBitPlace = answerRefusalPlace + refusalWidth
 
 abbrev pub answerFaultPlace : ℕ
-answerFaultPlace = answerBitPlace + bitBytes
+answerFaultPlace = answerBitPlace + bitWidth
 
 abbrev pub answerFaultOffsetPlace : ℕ
-answerFaultOffsetPlace = answerFaultPlace + faultBytes
+answerFaultOffsetPlace = answerFaultPlace + faultWidth
 
 abbrev pub answerFaultRulePlace : ℕ
-answerFaultRulePlace = answerFaultOffsetPlace + offsetBytes
+answerFaultRulePlace = answerFaultOffsetPlace + offsetWidth
 
 -- ## DUSKSTALL_REGISTRAR_*
 
 abbrev pub registrarSlotPlace : ℕ
-registrarSlotPlace = answerFaultRulePlace + ruleBytes
+registrarSlotPlace = answerFaultRulePlace + ruleWidth
 
 abbrev pub registrarSendsPlace : ℕ
-registrarSendsPlace = registrarSlotPlace + slotBytes
+registrarSendsPlace = registrarSlotPlace + slotNumberWidth
 
 abbrev pub registrarOutgoingPlace : ℕ
-registrarOutgoingPlace = registrarSendsPlace + flagBytes
+registrarOutgoingPlace = registrarSendsPlace + flagWidth
 
 -- ## DUSKSTALL_END_ENTITY_*
 
 abbrev pub endEntitySendsPlace : ℕ
-endEntitySendsPlace = answerFaultRulePlace + ruleBytes
+endEntitySendsPlace = answerFaultRulePlace + ruleWidth
 
 abbrev pub endEntityOutgoingPlace : ℕ
-endEntityOutgoingPlace = endEntitySendsPlace + flagBytes
+endEntityOutgoingPlace = endEntitySendsPlace + flagWidth

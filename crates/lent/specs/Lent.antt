@@ -14,13 +14,13 @@ use Rattle.protocol.specs.Table.{emptyTable}
 use Rattle.protocol.specs.Run.{Call, Start, End, TheRegistrar, OneBoard, NoEnd, Event, World, BoardEnrolment, unlessRefused, sentBy, run}
 use Rattle.protocol.specs.Agreement.{Fair, Agreement}
 use Rattle.packed.specs.Bytes.{flagAt}
-use Rattle.packed.specs.Places.{registrarSendsAt, registrarOutgoingAt, endEntitySendsAt, endEntityOutgoingAt}
 use Rattle.packed.specs.Outgoing.{outgoingOf}
 use Rattle.packed.specs.Answer.{outcomeOf}
 use Rattle.packed.specs.Table.{tableBytes, unpackTable, packTableIn}
 use Rattle.packed.specs.Enrolment.{unpackEnrolment}
 use Rattle.duskstall.specs.Boundary.{Crossing}
 use Rattle.duskstall.specs.Calls.{idOf, freshOf, endEntityStartCrossing}
+use Rattle.lent.specs.HeaderPlaces.{registrarSendsPlace, registrarOutgoingPlace, endEntitySendsPlace, endEntityOutgoingPlace}
 use Rattle.lent.specs.Calls.{RegistrarCall, EndEntityCall, registrarCrosses, endEntityCrosses, registrarStep, endEntityStep, closing}
 
 -- ## Calls
@@ -108,10 +108,10 @@ made w (c ∷ cs) = cond (isMade (crossing w c .code)) (callOf c ∷ made (lentS
 
 -- what is to be sent: duskstall_registrar_outgoing, duskstall_end_entity_outgoing
 unfoldable pub registrarSent : List ℕ → Option Outgoing
-registrarSent s = sentBy (flagAt registrarSendsAt s) (outgoingOf (drop registrarOutgoingAt s))
+registrarSent s = sentBy (flagAt registrarSendsPlace s) (outgoingOf (drop registrarOutgoingPlace s))
 
 unfoldable pub endEntitySent : List ℕ → Option Outgoing
-endEntitySent s = sentBy (flagAt endEntitySendsAt s) (outgoingOf (drop endEntityOutgoingAt s))
+endEntitySent s = sentBy (flagAt endEntitySendsPlace s) (outgoingOf (drop endEntityOutgoingPlace s))
 
 abbrev pub sentOf : LentCall → List ℕ → Option Outgoing
 sentOf (AtRegistrar c a) x = registrarSent x

@@ -11,13 +11,13 @@ use Rattle.protocol.specs.declared.EndEntityAnswer.{EndEntityAnswer}
 use Rattle.protocol.specs.EndEntity.{endEntityStart}
 use Rattle.protocol.specs.Promises.{AtMostOne, AllUnsetZero}
 use Rattle.packed.specs.Bytes.{flagAt}
-use Rattle.packed.specs.Places.{endEntitySendsAt, endEntityOutgoingAt}
 use Rattle.packed.specs.Outgoing.{outgoingOf}
 use Rattle.packed.specs.Answer.{outcomeNumber, outcomeOf, readFaultOf, registrarAnswerOf, endEntityAnswerOf}
 use Rattle.packed.specs.Table.{tableBytes, unpackTable}
 use Rattle.packed.specs.Enrolment.{unpackEnrolment}
 use Rattle.duskstall.specs.Boundary.{Crossing}
 use Rattle.duskstall.specs.Calls.{idOf, freshOf}
+use Rattle.lent.specs.HeaderPlaces.{endEntitySendsPlace, endEntityOutgoingPlace}
 use Rattle.lent.specs.Calls.{registrarAnswers, endEntityAnswers}
 use Rattle.lent.specs.Lent.{LentCall, AtRegistrar, AtEndEntity, EndEntityStart, LentWorld, heldBytes, crossing, isMade, lentAfter, lentBeginning}
 use Rattle.lent.specs.Kept.{LentPromise}
@@ -48,8 +48,8 @@ pub record StartReads (x : Crossing) (a : EndEntityAnswer) : Type 0 where
   pub code : x .code ≡ outcomeNumber (a .outcome)
   pub outcome : outcomeOf (x .answer) ≡ a .outcome
   pub fault : readFaultOf (x .answer) ≡ a .fault
-  pub sends : flagAt endEntitySendsAt (x .answer) ≡ a .sends
-  pub outgoing : outgoingOf (drop endEntityOutgoingAt (x .answer)) ≡ a .outgoing
+  pub sends : flagAt endEntitySendsPlace (x .answer) ≡ a .sends
+  pub outgoing : outgoingOf (drop endEntityOutgoingPlace (x .answer)) ≡ a .outgoing
   pub enrolment : x .code ≡ 0 → unpackEnrolment (x .state) .enrolment ≡ a .enrolment
 
 abbrev pub ReadsBack : LentWorld → LentCall → Type 0

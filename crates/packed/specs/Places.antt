@@ -45,8 +45,8 @@ offsetBytes = 8
 abbrev pub ruleBytes : ℕ
 ruleBytes = 1
 
-abbrev pub slotBytes : ℕ
-slotBytes = 1
+abbrev pub slotNumberBytes : ℕ
+slotNumberBytes = 1
 
 -- ## A transaction, from the start of its slot
 
@@ -172,7 +172,7 @@ abbrev pub registrarSlotAt : ℕ
 registrarSlotAt = answerOwnAt
 
 abbrev pub registrarSendsAt : ℕ
-registrarSendsAt = registrarSlotAt + slotBytes
+registrarSendsAt = registrarSlotAt + slotNumberBytes
 
 abbrev pub registrarOutgoingAt : ℕ
 registrarOutgoingAt = registrarSendsAt + flagBytes

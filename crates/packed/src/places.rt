@@ -30,7 +30,7 @@ pub(crate) const OFFSET_BYTES: usize = 8;
 
 pub(crate) const RULE_BYTES: usize = 1;
 
-pub(crate) const SLOT_BYTES: usize = 1;
+pub(crate) const SLOT_NUMBER_BYTES: usize = 1;
 
 // A transaction, from the start of its slot.
 pub(crate) const TRANSACTION_ID: usize = 0;
@@ -102,7 +102,7 @@ pub(crate) const ANSWER_OWN: usize = ANSWER_RULE + RULE_BYTES;
 
 pub(crate) const REGISTRAR_SLOT: usize = ANSWER_OWN;
 
-pub(crate) const REGISTRAR_SENDS: usize = REGISTRAR_SLOT + SLOT_BYTES;
+pub(crate) const REGISTRAR_SENDS: usize = REGISTRAR_SLOT + SLOT_NUMBER_BYTES;
 
 pub(crate) const REGISTRAR_OUTGOING: usize = REGISTRAR_SENDS + FLAG_BYTES;
 
