@@ -14,19 +14,19 @@ use Rattle.protocol.specs.declared.TransactionTable.{TransactionTable}
 use Rattle.protocol.specs.declared.RegistrarAnswer.{RegistrarAnswer}
 use Rattle.protocol.specs.declared.TransactionState.{TransactionState}
 use Rattle.protocol.specs.Bytes.{nonceFrom}
-use Rattle.protocol.specs.Table.{lookup, slotOf, freeTransaction}
+use Rattle.protocol.specs.Table.{capacity, lookup, slotOf, freeTransaction}
 use Rattle.protocol.specs.Registrar.{hostStep, refusedQuietly, doneQuietly, responded, respond, replaced}
 use Rattle.registrar.specs.Steps.{heldAt, responseAnswer}
 use Rattle.registrar.proofs.SlotLaws.{slot-some, slot-none, slot-set}
 
-module _ (t : TransactionTable) (i : TransactionId) {p : ℕ} (slot : (p ≡ slotOf (t .transactions) i) × (length (t .transactions) ≡ 16)) where
+module _ (t : TransactionTable) (i : TransactionId) {p : ℕ} (slot : (p ≡ slotOf (t .transactions) i) × (length (t .transactions) ≡ capacity)) where
   abbrev rs : List Transaction
   rs = t .transactions
 
-  pub missing : 16 ≤ p → lookup rs i ≡ none
+  pub missing : capacity ≤ p → lookup rs i ≡ none
   missing q = slot-none rs i (omega arith)
 
-  pub found : {r : Transaction} → r ≡ heldAt rs p → p < 16 → lookup rs i ≡ some r
+  pub found : {r : Transaction} → r ≡ heldAt rs p → p < capacity → lookup rs i ≡ some r
   found h q = slot-some rs i freeTransaction (omega arith) ∙ ap (λ (k : ℕ). some (getD rs k freeTransaction)) (sym (slot .0)) ∙ ap some (sym h)
 
   -- what is done at the slot is done for the id
@@ -37,11 +37,11 @@ module _ (t : TransactionTable) (i : TransactionId) {p : ℕ} (slot : (p ≡ slo
   sending r s status n h = rw (slot .0, slot-set rs i (responded r s (nonceFrom n) h))
 
   module _ (ok : Transaction → Bool) (f : Transaction → RegistrarAnswer) where
-    pub no-slot : 16 ≤ p → refusedQuietly 30 t ≡ hostStep (lookup rs i) t ok f
+    pub no-slot : capacity ≤ p → refusedQuietly 30 t ≡ hostStep (lookup rs i) t ok f
     no-slot q = rw (missing q)
 
     -- by the transaction in the slot, and the code's test of its state
-    module _ {r : Transaction} (h : r ≡ heldAt rs p) (q : p < 16) {b : Bool} (e : b ≡ ok r) where
+    module _ {r : Transaction} (h : r ≡ heldAt rs p) (q : p < capacity) {b : Bool} (e : b ≡ ok r) where
       pub not-allowed : b ≡ false → refusedQuietly 31 t ≡ hostStep (lookup rs i) t ok f
       not-allowed n = rw (found h q, ← e, n)
 

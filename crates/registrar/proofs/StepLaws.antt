@@ -29,7 +29,7 @@ use Rattle.protocol.specs.Bytes.{asId, asNonce, noNonce, noHash}
 use Rattle.grammar.specs.Span.{partOf}
 use Rattle.protocol.specs.Message.{Fields, fieldsOf, isOpeningKind, statusOr0}
 use Rattle.protocol.specs.Outgoing.{pkiConfOut}
-use Rattle.protocol.specs.Table.{lookup, slotOf, freeSlot, put, freeTransaction}
+use Rattle.protocol.specs.Table.{capacity, lookup, slotOf, freeSlot, put, freeTransaction}
 use Rattle.protocol.specs.States.{isGranted, isConfirmed, settledState}
 use Rattle.protocol.specs.Refusals.{pass, stop, lowestRow, headRows, bitOf, notSixteen}
 use Rattle.protocol.specs.RegistrarRows.{isGood, laterRows, registrarRows}
@@ -92,25 +92,25 @@ module _ (t : TransactionTable) (d : RegistrarInput) {bytes : List ℕ} {msg : M
   abbrev later : RegistrarAnswer
   later = registrarChecked (lowestRow (laterRows ts f (d .verdict) (Option·getD f freeTransaction) m)) f t d m
 
-  module _ {p : ℕ} (slot : (p ≡ slotOf (t .transactions) i) × (length (t .transactions) ≡ 16)) {r : Transaction} (h : r ≡ heldAt (t .transactions) p) where
+  module _ {p : ℕ} (slot : (p ≡ slotOf (t .transactions) i) × (length (t .transactions) ≡ capacity)) {r : Transaction} (h : r ≡ heldAt (t .transactions) p) where
     -- what the slot tells of the transaction with the id
     pub record Tells (k : Bool) : Type 0 where
       pub found : lookup (t .transactions) i ≡ foundBy k r
       pub held : Option·getD (lookup (t .transactions) i) freeTransaction ≡ r
       pub confirmed : confirmedAt (lookup (t .transactions) i) ≡ isConfirmed (r .state)
 
-    free-past : 16 ≤ p → freeTransaction ≡ r
+    free-past : capacity ≤ p → freeTransaction ≡ r
     free-past q = sym (h ∙ getD-past ts p freeTransaction (omega arith))
 
-    tells : (k : Bool) → k ≡ ltb p 16 → Tells k
-    tells true e = let q : lookup ts i ≡ some r = found t i slot h (ltb-true p 16 (sym e)) in record { found = q; held = rw q; confirmed = rw q }
+    tells : (k : Bool) → k ≡ ltb p capacity → Tells k
+    tells true e = let q : lookup ts i ≡ some r = found t i slot h (ltb-true p capacity (sym e)) in record { found = q; held = rw q; confirmed = rw q }
     tells false e =
-        let z : 16 ≤ p = ltb-false p 16 (sym e) in
+        let z : capacity ≤ p = ltb-false p capacity (sym e) in
         let q : lookup ts i ≡ none = missing t i slot z in
         record { found = q; held = rw q (free-past z); confirmed = rw (q, ← free-past z) }
 
     abbrev k : Bool
-    k = ltb p 16
+    k = ltb p capacity
 
     told-now : Tells k
     told-now = tells k refl

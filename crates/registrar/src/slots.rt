@@ -7,7 +7,7 @@ use protocol::TransactionId;
 use protocol::TransactionTable;
 ghost use mathlib.Core.Path.{_≡_};
 ghost use lib.ListN.{length};
-ghost use Rattle.protocol.specs.Table.{isFree, isFor, slotOf, freeSlot};
+ghost use Rattle.protocol.specs.Table.{capacity, isFree, isFor, slotOf, freeSlot};
 ghost use Rattle.registrar.specs.Steps.{heldAt, withAt};
 
 fn is_for(id: TransactionId, t: Transaction) -> bool
@@ -23,7 +23,7 @@ fn is_for(id: TransactionId, t: Transaction) -> bool
 
 // The slot in use that has the id; the number of slots where there is none.
 pub(crate) fn find(table: TransactionTable, id: TransactionId) -> usize
-    ensures { λ r. ⌜ (r ≡ slotOf (table .transactions) id) × (length (table .transactions) ≡ 16) ⌝ }
+    ensures { λ r. ⌜ (r ≡ slotOf (table .transactions) id) × (length (table .transactions) ≡ capacity) ⌝ }
 {
     let mut i: usize = 0;
     while i < TransactionTable::CAPACITY {
@@ -45,7 +45,7 @@ fn is_free_slot(t: Transaction) -> bool
 
 // The lowest free slot; the number of slots where there is none.
 pub(crate) fn free_slot(table: TransactionTable) -> usize
-    ensures { λ r. ⌜ (r ≡ freeSlot (table .transactions)) × (length (table .transactions) ≡ 16) ⌝ }
+    ensures { λ r. ⌜ (r ≡ freeSlot (table .transactions)) × (length (table .transactions) ≡ capacity) ⌝ }
 {
     let mut i: usize = 0;
     while i < TransactionTable::CAPACITY {

@@ -3,18 +3,18 @@ use Prim.Native.Nat.{_<_, _≤_, _-_, _+_}
 use mathlib.Core.Path.{_≡_, sym, _∙_}
 use native.Mathlib.Omega.{arith}
 use lib.ListN.{length, drop, length-map}
-use Rattle.protocol.specs.Table.{slotOf}
+use Rattle.protocol.specs.Table.{capacity, slotOf}
 use Rattle.registrar.proofs.SlotLaws.{slot-here, slot-further, slot-end}
 use Rattle.registrar.proofs.slots.find.Statement.{statement}
 use Rattle.registrar.proofs.slots.find.Tie as tie
 
 abbrev Inv-loop : tie.InvT-loop
-Inv-loop id table i₀ i = (i ≤ 16) × (slotOf (table .transactions) id ≡ i + slotOf (drop i (table .transactions)) id)
+Inv-loop id table i₀ i = (i ≤ capacity) × (slotOf (table .transactions) id ≡ i + slotOf (drop i (table .transactions)) id)
 
 abbrev μ-loop : tie.MeasureT-loop
-μ-loop id table i₀ i = 16 - i
+μ-loop id table i₀ i = capacity - i
 
-sized : (s : tie.Start Inv-loop μ-loop) → length (s .args .t1 .transactions) ≡ 16
+sized : (s : tie.Start Inv-loop μ-loop) → length (s .args .t1 .transactions) ≡ capacity
 sized s = sym (length-map (s .args .t1 .transactions) _) ∙ s .good .0 .1 .1 .0 .1 .0 .1
 
 inside : (c : tie.In-loop Inv-loop μ-loop) → c .before .loop .i < length (c .before .before .args .t1 .transactions)

@@ -3,18 +3,18 @@ use Prim.Native.Nat.{_<_, _≤_, _-_, _+_}
 use mathlib.Core.Path.{_≡_, sym, _∙_}
 use native.Mathlib.Omega.{arith}
 use lib.ListN.{length, drop, length-map}
-use Rattle.protocol.specs.Table.{freeSlot}
+use Rattle.protocol.specs.Table.{capacity, freeSlot}
 use Rattle.registrar.proofs.SlotLaws.{free-here, free-further, free-end}
 use Rattle.registrar.proofs.slots.free_slot.Statement.{statement}
 use Rattle.registrar.proofs.slots.free_slot.Tie as tie
 
 abbrev Inv-loop : tie.InvT-loop
-Inv-loop table i₀ i = (i ≤ 16) × (freeSlot (table .transactions) ≡ i + freeSlot (drop i (table .transactions)))
+Inv-loop table i₀ i = (i ≤ capacity) × (freeSlot (table .transactions) ≡ i + freeSlot (drop i (table .transactions)))
 
 abbrev μ-loop : tie.MeasureT-loop
-μ-loop table i₀ i = 16 - i
+μ-loop table i₀ i = capacity - i
 
-sized : (s : tie.Start Inv-loop μ-loop) → length (s .args .t1 .transactions) ≡ 16
+sized : (s : tie.Start Inv-loop μ-loop) → length (s .args .t1 .transactions) ≡ capacity
 sized s = sym (length-map (s .args .t1 .transactions) _) ∙ s .good .0 .1 .1 .0 .1 .0 .1
 
 inside : (c : tie.In-loop Inv-loop μ-loop) → c .before .loop .i < length (c .before .before .args .t1 .transactions)

@@ -2,11 +2,12 @@
 use mathlib.Core.Path.{_≡_, sym, _∙_}
 use native.Mathlib.Omega.{arith}
 use lib.ListN.{length, length-map}
+use Rattle.protocol.specs.Table.{capacity}
 use Rattle.registrar.proofs.SlotLaws.{getD-any, getD-past}
 use Rattle.registrar.proofs.slots.transaction_at.Statement.{statement}
 use Rattle.registrar.proofs.slots.transaction_at.Tie as tie
 
-sized : (s : tie.Start) → length (s .args .t1 .transactions) ≡ 16
+sized : (s : tie.Start) → length (s .args .t1 .transactions) ≡ capacity
 sized s = sym (length-map (s .args .t1 .transactions) _) ∙ s .good .0 .1 .1 .0 .1 .0 .1
 
 pub transaction-at-spec : {M : Type 1} → statement M
