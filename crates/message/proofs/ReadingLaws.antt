@@ -39,7 +39,7 @@ Unmet m = messageOf m .met ≡ false
 abbrev pub Broken : List ℕ → Type 0
 Broken m = (isSound (check m) ≡ false) ⊎ Unmet m
 
--- a clean reading is of a message of 1 to 16,384 bytes, DER throughout, that meets the grammar, and hands out the places found
+-- a clean reading is of a message of 1 to maxMessage bytes, DER throughout, that meets the grammar, and hands out the places found
 pub record CleanOf (m : List ℕ) (x : Message) : Type 0 where
   pub some : 1 ≤ length m
   pub few : length m ≤ maxMessage
@@ -54,7 +54,7 @@ pub record Lowest (m : List ℕ) (at rule : ℕ) : Type 0 where
   pub grammar : Unmet m → at ≤ messageOf m .at .0
   pub named : ((check m ≡ Fault (record { 0 = at }) rule) × (1 ≤ rule) × (rule ≤ 4)) ⊎ (Unmet m × (at ≡ messageOf m .at .0) × (rule ≡ 5) × ((a : Offset) (q : ℕ) → check m ≡ Fault a q → at < a .0))
 
--- refusal 2 is of a message of 1 to 16,384 bytes and names the lowest fault
+-- refusal 2 is of a message of 1 to maxMessage bytes and names the lowest fault
 pub record BrokenAt (m : List ℕ) (r : ReadFault) : Type 0 where
   pub some : 1 ≤ length m
   pub few : length m ≤ maxMessage
@@ -108,7 +108,7 @@ says m =
 
 -- ## What a user of the reader may rely on
 
--- CLEAN: a clean reading is of a message of 1 to 16,384 bytes that is DER and meets the grammar, and it is what the grammar found
+-- CLEAN: a clean reading is of a message of 1 to maxMessage bytes that is DER and meets the grammar, and it is what the grammar found
 pub clean-found : (m : List ℕ) (x : Message) → readingOf m ≡ Clean x → CleanOf m x
 unfolding Says
 clean-found m x e = subst (Says m) e (says m)
@@ -163,7 +163,7 @@ one-of m (Clean x) s n = no-length m n (s .some) (s .few)
 one-of m (Refused r) (inl p) n = p .0
 one-of m (Refused r) (inr b) n = absurd (no-length m n (b .some) (b .few))
 
--- REFUSAL 1 EXACTLY: a message is refused by 1 exactly where its length is 0 or above 16,384
+-- REFUSAL 1 EXACTLY: a message is refused by 1 exactly where its length is 0 or above maxMessage
 pub refused-1-exactly : (m : List ℕ) → Numbered 1 (readingOf m) ↔ NoLength m
 refused-1-exactly m = (one-to m (readingOf m) (says m), one-of m (readingOf m) (says m))
 
@@ -179,6 +179,6 @@ two-of m some few (Clean x) s n = ⊎-elim (λ e. true≢false (sym (ap isSound 
 two-of m some few (Refused r) (inl p) n = absurd (no-length m (p .1) some few)
 two-of m some few (Refused r) (inr b) n = b .number
 
--- REFUSAL 2 EXACTLY: a message of 1 to 16,384 bytes is refused by 2 exactly where it is not DER or does not meet the grammar
+-- REFUSAL 2 EXACTLY: a message of 1 to maxMessage bytes is refused by 2 exactly where it is not DER or does not meet the grammar
 pub refused-2-exactly : (m : List ℕ) → 1 ≤ length m → length m ≤ maxMessage → Numbered 2 (readingOf m) ↔ Broken m
 refused-2-exactly m some few = (two-to m (readingOf m) (says m), two-of m some few (readingOf m) (says m))
