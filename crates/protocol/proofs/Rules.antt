@@ -2,7 +2,7 @@
 use Prim.Native.Nat.{ℕ, _<_, _≤_}
 use mathlib.Core.List.{List}
 use mathlib.Core.Bool.{Bool, true, false, not, cond, _&&_}
-use mathlib.Core.Option.{Option, none, some, Option·getD}
+use mathlib.Core.Option.{Option, none, some}
 use mathlib.Core.Path.{_≡_, refl, sym, _∙_, ap, subst}
 use native.Mathlib.Omega.{arith}
 use lib.Dec.{leb, leb→le, le→leb}
@@ -27,10 +27,10 @@ use Rattle.protocol.specs.declared.Outcome.the-variants as outcome
 use Rattle.protocol.specs.Bytes.{asId, asNonce}
 use Rattle.protocol.specs.Message.{Fields, fieldsOf}
 use Rattle.protocol.specs.Outgoing.{errorOut, silent}
-use Rattle.protocol.specs.Table.{lookup, freeTransaction}
+use Rattle.protocol.specs.Table.{lookup}
 use Rattle.protocol.specs.States.{isGranted, mayIssue, mayRefuse, mayLapse, mayClose, hasSent}
 use Rattle.protocol.specs.Refusals.{bitOf, lowestRow, LowestRow, stop, pass, readRefusal, noFault}
-use Rattle.protocol.specs.RegistrarRows.{registrarRows, opens, confirms, oneEntry}
+use Rattle.protocol.specs.RegistrarRows.{registrarRows, confirms, oneEntry}
 use Rattle.protocol.specs.Registrar.{hostStep, registrarIssue, registrarRefuse, registrarLapse, registrarClose, refusedMessage, registrarChecked, registrarMessage, registrarFields, registrarRead}
 use Rattle.protocol.specs.EndEntity.{endEntityMessage, endEntityRead}
 use Rattle.protocol.specs.HostRules.{hostRefusal, HostRule, HostRules}
@@ -38,6 +38,7 @@ use Rattle.protocol.specs.MessageRules.{errorMessage, ErrorRule, UnreadR
 use Rattle.protocol.proofs.Tests.{none-some, some-some, true-false, T→true, true→T, cases, other-than}
 use Rattle.protocol.proofs.RegistrarStates.{not-asked, not-granted, MayClose, may-close, not-close}
 use Rattle.protocol.proofs.RegistrarPromises.{refused-bit, refused-number, done-refused, again-refused}
+use Rattle.protocol.proofs.RegistrarPasses.{taken-by}
 use Rattle.protocol.proofs.ConfirmationMoves.{message-at}
 use Rattle.protocol.proofs.Slots.{sending-becomes, quietly-becomes}
 
@@ -100,20 +101,17 @@ module _ (t : TransactionTable) (d : RegistrarInput) (m : Fields) where
         below6 = λ j b e l. below-at k (leb 6 k) refl (subst (λ (z : ℕ). z < 6) (sym (refused-number k j _ b e)) l);
       }
 
-  error-checked : (f : Option Transaction) (c : LowestRow) → Rule (registrarChecked c f t d m)
+  error-checked : (f : Option Transaction) (c : LowestRow) → lowestRow (registrarRows (t .transactions) f (d .verdict) m) ≡ c → Rule (registrarChecked c f t d m)
   unfolding registrarChecked
-  error-checked f (stop k) = refusing f k
-  error-checked f pass =
-      cases Rule (opens m) _ _ (λ _. not-refused _ _ _ _)
-      (λ _.
-      cases Rule (confirms m) _ _
-      (λ _. cases Rule (isGranted (Option·getD f freeTransaction .state)) _ _ (λ _. not-refused _ _ _ _) (λ _. record { from6 = λ k b e. again-refused k b e; below6 = λ k b e. again-refused k b e }))
-      (λ _. refusing f 8))
+  error-checked f (stop k) e = refusing f k
+  error-checked f pass e =
+      taken-by t d m Rule f e (λ _ _ _. not-refused _ _ _ _)
+      (λ r _ _ _. cases Rule (isGranted (r .state)) _ _ (λ _. not-refused _ _ _ _) (λ _. record { from6 = λ k b e. again-refused k b e; below6 = λ k b e. again-refused k b e }))
 
 -- a message that reads
 pub error-rule : (t : TransactionTable) (d : RegistrarInput) (bytes : List ℕ) (m : Message) → readingOf bytes ≡ read.Clean m → ErrorRule (asId (fieldsOf bytes m .id)) (d .nonce) (asNonce (fieldsOf bytes m .senderNonce)) (registrarMessage t d bytes)
 unfolding registrarFields
-error-rule t d bytes m e = rw (message-at t d bytes m e) (error-checked t d (fieldsOf bytes m) (lookup (t .transactions) (asId (fieldsOf bytes m .id))) (lowestRow (registrarRows (t .transactions) (lookup (t .transactions) (asId (fieldsOf bytes m .id))) (d .verdict) (fieldsOf bytes m))))
+error-rule t d bytes m e = rw (message-at t d bytes m e) (error-checked t d (fieldsOf bytes m) (lookup (t .transactions) (asId (fieldsOf bytes m .id))) (lowestRow (registrarRows (t .transactions) (lookup (t .transactions) (asId (fieldsOf bytes m .id))) (d .verdict) (fieldsOf bytes m))) refl)
 
 -- one that does not read sends nothing
 pub unread-silent : (t : TransactionTable) (d : RegistrarInput) (bytes : List ℕ) (f : ReadFault) → readingOf bytes ≡ read.Refused f → registrarMessage t d bytes .sends ≡ false

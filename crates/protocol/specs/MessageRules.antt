@@ -9,6 +9,7 @@ use Rattle.message.specs.declared.ReadFault.{ReadFault}
 use Rattle.protocol.specs.declared.TransactionId.{TransactionId}
 use Rattle.protocol.specs.declared.Nonce.{Nonce}
 use Rattle.protocol.specs.declared.FreshNonce.{FreshNonce}
+use Rattle.protocol.specs.declared.Verdict.{Verdict}
 use Rattle.protocol.specs.declared.Transaction.{Transaction}
 use Rattle.protocol.specs.declared.FailureInfo.{FailureInfo}
 use Rattle.protocol.specs.declared.Outgoing.{Outgoing}
@@ -18,9 +19,10 @@ use Rattle.protocol.specs.declared.FailureInfo.the-variants.{NoBit, Bit}
 use Rattle.protocol.specs.declared.Outcome.the-variants as outcome
 use Rattle.protocol.specs.declared.TransactionState.the-variants.{Asked, Refused, Lapsed}
 use Rattle.protocol.specs.Message.{Fields, responseTo}
-use Rattle.protocol.specs.Refusals.{bitOf}
+use Rattle.protocol.specs.Refusals.{bitOf, headRows}
 use Rattle.protocol.specs.Slots.{ours}
-use Rattle.protocol.specs.RegistrarRows.{confirmsOtherNonce, otherHash, notTaken}
+use Rattle.protocol.specs.RegistrarRows.{isGood, confirmsOtherNonce, otherHash, notTaken}
+use Rattle.protocol.specs.Promises.{Applies}
 
 -- an error message with status 2 and this bit
 abbrev pub errorMessage : TransactionId → FreshNonce → Nonce → FailureInfo → Outgoing
@@ -51,6 +53,16 @@ OtherKind k = (k ≡ 24 → ⊥) × ((k ≡ 0) ⊎ (k ≡ 2) ⊎ (k ≡ 4) ⊎ (
 
 abbrev pub IsRefused : Outcome → Type 0
 IsRefused o = (n : ℕ) × (b : FailureInfo) × (o ≡ outcome.Refused n b)
+
+-- none of the rows 3 to 7 applies to the message
+abbrev pub NotBefore8 : Verdict → Fields → Type 0
+NotBefore8 v m = (k : ℕ) → Applies k (headRows (isGood v) m) → ⊥
+
+-- then it is refused by 8, with bit 2 and an error message: i and a are its id and senderNonce, n the fresh nonce
+pub record RefusedBy8 (i : TransactionId) (n a : Nonce) (answer : RegistrarAnswer) : Type 0 where
+  pub refused : answer .outcome ≡ outcome.Refused 8 (Bit 2)
+  pub sends : answer .sends ≡ true
+  pub message : answer .outgoing ≡ errorMessage i n a (Bit 2)
 
 -- a certConf with one entry, for the transaction r
 pub record Corners (r : Transaction) (m : Fields) : Type 0 where

@@ -2,7 +2,7 @@
 use Prim.Native.Nat.{ℕ}
 use mathlib.Core.List.{List}
 use mathlib.Core.Bool.{Bool, true, false, cond}
-use mathlib.Core.Option.{Option, none, some, Option·getD}
+use mathlib.Core.Option.{Option, none, some}
 use lib.Dec.{leb}
 use Rattle.message.specs.Read.{readingOf}
 use Rattle.message.specs.declared.ReadFault.{ReadFault}
@@ -92,12 +92,17 @@ confirmed t r n m =
     (doneSending (slotOf (t .transactions) i) (replace (t .transactions) i (settled r (settledState (statusOr0 (m .status))) a)) (pkiConfOut i n a))
     (record { outcome = outcome.Again; fault = noFault; slot = record { 0 = slotOf (t .transactions) i }; sends = true; outgoing = pkiConfOut i n a; table = t })
 
--- a message that no row refuses, by its kind: f is the transaction with its id; of another kind none comes here
+-- a certConf that no row refuses, of the transaction with its id; without one none comes here (12)
+abbrev pub confirmedFound : Option Transaction → TransactionTable → Nonce → Fields → RegistrarAnswer
+confirmedFound none t n m = refusedQuietly 12 t
+confirmedFound (some r) t n m = confirmed t r n m
+
+-- a message that no row refuses, by its kind: f is the transaction with its id; of another kind none comes here (8)
 abbrev pub registrarTaken : Option Transaction → TransactionTable → RegistrarInput → Fields → RegistrarAnswer
 registrarTaken f t d m =
     cond (opens m)
     (opened t (d .verdict) m)
-    (cond (confirms m) (confirmed t (Option·getD f freeTransaction) (d .nonce) m) (refusedMessage 8 f t (d .nonce) m))
+    (cond (confirms m) (confirmedFound f t (d .nonce) m) (refusedQuietly 8 t))
 
 unfoldable pub registrarChecked : LowestRow → Option Transaction → TransactionTable → RegistrarInput → Fields → RegistrarAnswer
 registrarChecked (stop k) f t d m = refusedMessage k f t (d .nonce) m

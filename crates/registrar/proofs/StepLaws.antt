@@ -1,12 +1,12 @@
 -- A message's step by the slot and the copies that the code makes.
 use Prim.Native.Nat.{ℕ, _<_, _≤_}
 use mathlib.Core.List.{List}
-use mathlib.Core.Bool.{Bool, true, false, not}
+use mathlib.Core.Bool.{Bool, true, false, cond}
 use mathlib.Core.Option.{Option, none, some, Option·getD}
 use mathlib.Core.Path.{_≡_, refl, sym, _∙_}
 use mathlib.Core.Logic.{inl, inr}
 use native.Mathlib.Omega.{arith}
-use borrow.Author.Tests.{ltb-true, ltb-false, leb-true, eq-eqb, ne-eqb}
+use borrow.Author.Tests.{ltb-true, ltb-false, leb-true, eq-eqb, ne-eqb, lt-ltb, le-ltb}
 use lib.ListN.{length}
 use lib.Dec.{leb, ltb}
 use Rattle.grammar.specs.declared.Message.{Message}
@@ -33,7 +33,7 @@ use Rattle.protocol.specs.Table.{capacity, lookup, slotOf, freeSlot, put, freeT
 use Rattle.protocol.specs.States.{isGranted, isConfirmed, settledState}
 use Rattle.protocol.specs.Refusals.{pass, stop, lowestRow, headRows, bitOf, notSixteen}
 use Rattle.protocol.specs.RegistrarRows.{isGood, laterRows, registrarRows}
-use Rattle.protocol.specs.Registrar.{boardNamed, doneQuietly, doneSending, settled, confirmedAt, refusedMessage, confirmed, refusedReading, registrarChecked, registrarFields, registrarRead, registrarMessage}
+use Rattle.protocol.specs.Registrar.{boardNamed, refusedQuietly, doneQuietly, doneSending, settled, confirmedAt, refusedMessage, confirmed, confirmedFound, refusedReading, registrarChecked, registrarFields, registrarRead, registrarMessage}
 use Rattle.protocol.proofs.Tests.{passes}
 use Rattle.protocol.specs.Promises.{Applies}
 use Rattle.protocol.proofs.Rows.{least, stops}
@@ -71,11 +71,14 @@ module _ (t : TransactionTable) (p : ℕ) (r : Transaction) (k s : ℕ) (d : Reg
       doneQuietly (freeSlot (t .transactions)) (put (t .transactions) (record { id = i; board = b; kind = k; taken = a; sent = noNonce; hash = noHash; state = Asked })) ≡ takenAt t p r k s d i a
   taken-opens e o = rw (e, o)
 
-  pub taken-confirms : isOpeningKind k ≡ false → k ≡ 24 → confirmation t p r (d .nonce) i a s ≡ takenAt t p r k s d i a
-  taken-confirms o q = rw (o, eq-eqb k 24 q)
+  pub taken-confirms : isOpeningKind k ≡ false → k ≡ 24 → p < capacity → confirmation t p r (d .nonce) i a s ≡ takenAt t p r k s d i a
+  taken-confirms o q h = rw (o, eq-eqb k 24 q, lt-ltb p capacity h)
 
-  pub taken-neither : {c : Bool} → c ≡ isConfirmed (r .state) → isOpeningKind k ≡ false → (k ≡ 24 → ⊥) → refusalAnswer 8 c t (d .nonce) i a ≡ takenAt t p r k s d i a
-  taken-neither e o q = rw (e, o, ne-eqb k 24 q)
+  pub taken-unknown : isOpeningKind k ≡ false → k ≡ 24 → capacity ≤ p → refusedQuietly 12 t ≡ takenAt t p r k s d i a
+  taken-unknown o q h = rw (o, eq-eqb k 24 q, le-ltb p capacity h)
+
+  pub taken-neither : isOpeningKind k ≡ false → (k ≡ 24 → ⊥) → refusedQuietly 8 t ≡ takenAt t p r k s d i a
+  taken-neither o q = rw (o, ne-eqb k 24 q)
 
 -- ## After the first five rows
 
@@ -135,18 +138,26 @@ module _ (t : TransactionTable) (d : RegistrarInput) {bytes : List ℕ} {msg : M
       unfolding allPositive
       passes-it z = rows-are ∙ passes-all (laterRows ts (foundBy k r) (d .verdict) r m) refl (sym z ∙ en)
 
+      confirmed-by : (b : Bool) → cond b (confirmation t p r (d .nonce) i a (statusOr0 (m .status))) (refusedQuietly 12 t) ≡ confirmedFound (foundBy b r) t (d .nonce) m
+      confirmed-by true =
+          rw (
+            ← copied .id,
+            ← copied .nonce,
+            slot .0,
+            slot-set ts i (settled r (settledState (statusOr0 (m .status))) a),
+          )
+      confirmed-by false = refl
+
       pub later-taken : {s : ℕ} → s ≡ statusOr0 (m .status) → n ≡ 0 → takenAt t p r (m .kind) s d i a ≡ later
       unfolding registrarChecked
       later-taken es z =
           rw (
             es,
             passes-it z,
-            told-now .held,
-            told-now .confirmed,
+            told-now .found,
+            ← confirmed-by k,
             ← copied .id,
             ← copied .nonce,
-            slot .0,
-            slot-set ts i (settled r (settledState (statusOr0 (m .status))) a),
           )
 
 -- ## The first five rows

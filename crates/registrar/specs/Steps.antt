@@ -5,7 +5,7 @@ use mathlib.Core.Bool.{Bool, true, false, cond}
 use mathlib.Core.Option.{Option, none, some, Option·getD}
 use mathlib.Core.Path.{_≡_}
 use lib.ListN.{getD, set}
-use lib.Dec.{eqb, leb}
+use lib.Dec.{eqb, leb, ltb}
 use Rattle.grammar.specs.declared.Message.{Message}
 use Rattle.protocol.specs.declared.Board.{Board}
 use Rattle.protocol.specs.declared.TransactionId.{TransactionId}
@@ -23,11 +23,11 @@ use Rattle.protocol.specs.declared.Outcome.the-variants as outcome
 use Rattle.protocol.specs.Bytes.{asId, asNonce, noNonce, noHash, nonceFrom}
 use Rattle.protocol.specs.Message.{Fields, fieldsOf, isOpeningKind, certConf, responseTo}
 use Rattle.protocol.specs.Outgoing.{silent, errorOut, pkiConfOut, responseOut}
-use Rattle.protocol.specs.Table.{freeTransaction, lookup, freeSlot, put}
-use Rattle.protocol.specs.States.{isGranted, isConfirmed, settledState}
+use Rattle.protocol.specs.Table.{capacity, freeTransaction, lookup, freeSlot, put}
+use Rattle.protocol.specs.States.{isGranted, settledState}
 use Rattle.protocol.specs.Refusals.{lowestRow, bitOf, noFault}
 use Rattle.protocol.specs.RegistrarRows.{laterRows}
-use Rattle.protocol.specs.Registrar.{boardNamed, doneQuietly, doneSending, settled, responded, registrarChecked}
+use Rattle.protocol.specs.Registrar.{boardNamed, refusedQuietly, doneQuietly, doneSending, settled, responded, registrarChecked}
 
 -- ## Slots
 
@@ -71,12 +71,13 @@ abbrev pub confirmation : TransactionTable → (p : ℕ) → (r : Transaction) �
 confirmation t p r n i a s =
     cond (isGranted (r .state)) (doneSending p (set (t .transactions) p (settled r (settledState s) a)) (pkiConfOut i n a)) (repeated p t (pkiConfOut i n a))
 
--- a message that no row refuses, by its kind k: for the transaction r in the slot p, or for a new one
+-- a message that no row refuses, by its kind k: for the transaction r in the slot p, or for a new one. No certConf without a
+-- transaction (12) and no other kind (8) comes here
 abbrev pub takenAt : TransactionTable → (p : ℕ) → (r : Transaction) → (k status : ℕ) → RegistrarInput → (i : TransactionId) → (a : Nonce) → RegistrarAnswer
 takenAt t p r k s d i a =
     cond (isOpeningKind k)
     (doneQuietly (freeSlot (t .transactions)) (put (t .transactions) (askedTransaction i (boardNamed (d .verdict)) k a)))
-    (cond (eqb k certConf) (confirmation t p r (d .nonce) i a s) (refusalAnswer 8 (isConfirmed (r .state)) t (d .nonce) i a))
+    (cond (eqb k certConf) (cond (ltb p capacity) (confirmation t p r (d .nonce) i a s) (refusedQuietly 12 t)) (refusedQuietly 8 t))
 
 -- a response of this status for the transaction r in the slot p, which then is in the state s
 abbrev pub responseAnswer : TransactionTable → (p : ℕ) → (r : Transaction) → TransactionId → TransactionState → (status : ℕ) → FreshNonce → Hash → RegistrarAnswer

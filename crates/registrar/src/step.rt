@@ -3,6 +3,7 @@ use crate::answers::again;
 use crate::answers::done_quietly;
 use crate::answers::done_sending;
 use crate::answers::refused_message;
+use crate::answers::refused_quietly;
 use crate::answers::refused_reading;
 use crate::host::settled;
 use crate::rows::is_good;
@@ -105,7 +106,8 @@ fn confirm(
     again(slot, table, outgoing)
 }
 
-// A message that no row refuses, by its kind: `held` is the transaction in the slot. Of another kind none comes here.
+// A message that no row refuses, by its kind: `held` is the transaction in the slot. No certConf without a transaction (12)
+// and no other kind (8) comes here.
 fn taken(
     table: TransactionTable,
     slot: Slot,
@@ -118,15 +120,17 @@ fn taken(
 ) -> RegistrarAnswer
     ensures { λ r. ⌜ r ≡ takenAt table (slot .0) held kind status input id answered ⌝ }
 {
-    let state = held.state;
     let verdict = input.verdict;
     if is_opening_kind(kind) {
         return open(table, id, board_named(verdict), kind, answered);
     }
     if kind == CERT_CONF {
-        return confirm(table, slot, held, input.nonce, id, answered, status);
+        if slot.0 < TransactionTable::CAPACITY {
+            return confirm(table, slot, held, input.nonce, id, answered, status);
+        }
+        return refused_quietly(12, table);
     }
-    refused_message(8, is_confirmed(state), table, input.nonce, id, answered)
+    refused_quietly(8, table)
 }
 
 // A message that the rows 3 to 7 do not refuse: `id` and `answered` are its id and its senderNonce.
