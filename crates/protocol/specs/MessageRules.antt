@@ -59,7 +59,7 @@ abbrev pub NotBefore8 : Verdict → Fields → Type 0
 NotBefore8 v m = (k : ℕ) → Applies k (headRows (isGood v) m) → ⊥
 
 -- then it is refused by 8, with bit 2 and an error message: i and a are its id and senderNonce, n the fresh nonce
-pub record RefusedBy8 (i : TransactionId) (n a : Nonce) (answer : RegistrarAnswer) : Type 0 where
+pub record RefusedBy8 (i : TransactionId) (n : FreshNonce) (a : Nonce) (answer : RegistrarAnswer) : Type 0 where
   pub refused : answer .outcome ≡ outcome.Refused 8 (Bit 2)
   pub sends : answer .sends ≡ true
   pub message : answer .outgoing ≡ errorMessage i n a (Bit 2)

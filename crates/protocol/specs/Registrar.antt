@@ -93,7 +93,7 @@ confirmed t r n m =
     (record { outcome = outcome.Again; fault = noFault; slot = record { 0 = slotOf (t .transactions) i }; sends = true; outgoing = pkiConfOut i n a; table = t })
 
 -- a certConf that no row refuses, of the transaction with its id; without one none comes here (12)
-abbrev pub confirmedFound : Option Transaction → TransactionTable → Nonce → Fields → RegistrarAnswer
+abbrev pub confirmedFound : Option Transaction → TransactionTable → FreshNonce → Fields → RegistrarAnswer
 confirmedFound none t n m = refusedQuietly 12 t
 confirmedFound (some r) t n m = confirmed t r n m
 
