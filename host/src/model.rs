@@ -12,6 +12,7 @@ mod registrar;
 pub use end_entity::EndEntity;
 pub use registrar::Registrar;
 
+use crate::ends::{Nonce, Outgoing, TransactionId};
 use crate::refusal::Refusal;
 
 const IR: u8 = 0;
@@ -42,6 +43,19 @@ fn response_to(request: u8) -> u8 {
         IR => IP,
         KUR => KUP,
         _ => CP,
+    }
+}
+
+/// A message to be sent, without what only some kinds carry.
+fn plain(kind: u8, id: TransactionId, nonce: Nonce, recip_nonce: Option<Nonce>) -> Outgoing {
+    Outgoing {
+        kind,
+        id,
+        sender_nonce: nonce,
+        recip_nonce,
+        status: None,
+        hash: None,
+        failure: None,
     }
 }
 

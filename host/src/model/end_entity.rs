@@ -1,7 +1,7 @@
 //! "The board's states": one enrolment of a board.
 
 use super::incoming::Incoming;
-use super::{is_request, refusal, refuse_if, response_to};
+use super::{is_request, plain, refusal, refuse_if, response_to};
 use super::{ACCEPTED, CERT_CONF, ERROR, GRANTED_WITH_MODS, PKICONF, REJECTION};
 use crate::ends::{CertHash, Decision, EndEntityAnswer, Nonce, Outcome, Outgoing, TransactionId};
 use crate::refusal::Refusal;
@@ -21,22 +21,14 @@ impl EndEntity {
         nonce: Nonce,
     ) -> Result<(EndEntity, Outgoing), Refusal> {
         refuse_if(!is_request(kind), 32)?;
+        let request = plain(kind, id, nonce, None);
         let enrolment = Enrolment {
             id,
             kind,
-            last: nonce,
+            last: request.sender_nonce,
             taken: Nonce::default(),
             hash: CertHash::default(),
             state: EnrolmentState::Asked,
-        };
-        let request = Outgoing {
-            kind,
-            id,
-            sender_nonce: nonce,
-            recip_nonce: None,
-            status: None,
-            hash: None,
-            failure: None,
         };
         Ok((EndEntity { enrolment }, request))
     }
@@ -99,22 +91,20 @@ impl EndEntity {
         } else {
             (EnrolmentState::Declining, REJECTION)
         };
+        let answered = Some(message.sender_nonce);
+        let cert_conf = Outgoing {
+            status: Some(status as u32),
+            hash: Some(decision.hash),
+            ..plain(CERT_CONF, self.enrolment.id, nonce, answered)
+        };
         self.enrolment = Enrolment {
-            last: nonce,
+            last: cert_conf.sender_nonce,
             taken: message.sender_nonce,
             hash: decision.hash,
             state,
             ..self.enrolment
         };
-        Ok(Some(Outgoing {
-            kind: CERT_CONF,
-            id: self.enrolment.id,
-            sender_nonce: nonce,
-            recip_nonce: Some(message.sender_nonce),
-            status: Some(status as u32),
-            hash: Some(decision.hash),
-            failure: None,
-        }))
+        Ok(Some(cert_conf))
     }
 
     /// pkiconf: "Confirming to Sure, Declining to Declined".

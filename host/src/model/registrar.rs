@@ -1,7 +1,7 @@
 //! "The desk's states": the registrar and its table.
 
 use super::incoming::Incoming;
-use super::{is_request, refusal, refuse_if, response_to};
+use super::{is_request, plain, refusal, refuse_if, response_to};
 use super::{ACCEPTED, CERT_CONF, ERROR, P10CR, PKICONF, REJECTION};
 use crate::ends::{
     Board, CertHash, Nonce, Outcome, Outgoing, RegistrarAnswer, Slot, TransactionId, Verdict,
@@ -254,30 +254,19 @@ fn wrong_state(state: TransactionState) -> Refusal {
 
 /// The ip, cp or kup to a transaction's request.
 fn respond(transaction: &mut Transaction, nonce: Nonce, status: i32) -> Outgoing {
-    transaction.sent = nonce;
-    Outgoing {
-        kind: response_to(transaction.kind),
-        id: transaction.id,
-        sender_nonce: nonce,
-        recip_nonce: Some(transaction.taken),
+    let kind = response_to(transaction.kind);
+    let response = Outgoing {
         status: Some(status as u32),
-        hash: None,
-        failure: None,
-    }
+        ..plain(kind, transaction.id, nonce, Some(transaction.taken))
+    };
+    transaction.sent = response.sender_nonce;
+    response
 }
 
 /// "Every answer carries the id and, as recipNonce, the senderNonce of the
 /// message answered."
 fn answer_to(message: &Incoming, kind: u8, nonce: Nonce) -> Outgoing {
-    Outgoing {
-        kind,
-        id: message.id,
-        sender_nonce: nonce,
-        recip_nonce: Some(message.sender_nonce),
-        status: None,
-        hash: None,
-        failure: None,
-    }
+    plain(kind, message.id, nonce, Some(message.sender_nonce))
 }
 
 /// "For numbers 6 up in message steps the desk also issues an error order with
