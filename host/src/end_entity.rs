@@ -1,7 +1,7 @@
 //! An end entity, run by the compiled library.
 
 use crate::answers::{self, END_ENTITY_ANSWER_BYTES};
-use crate::ends::{Decision, EndEntityAnswer, Nonce, Outcome, Outgoing, TransactionId};
+use crate::ends::{Decision, EndEntityAnswer, FreshNonce, Outcome, Outgoing, TransactionId};
 use crate::library;
 use crate::refusal::Refusal;
 use crate::states::{Enrolment, ENROLMENT_BYTES};
@@ -12,9 +12,9 @@ use crate::states::{Enrolment, ENROLMENT_BYTES};
 /// enrolment as it was.
 ///
 /// ```
-/// use duskstall_host::{EndEntity, EnrolmentState, Nonce, Outcome, TransactionId};
+/// use duskstall_host::{EndEntity, EnrolmentState, FreshNonce, Outcome, TransactionId};
 ///
-/// let (mut board, request) = EndEntity::start(2, TransactionId([1; 16]), Nonce([2; 16]))?;
+/// let (mut board, request) = EndEntity::start(2, TransactionId([1; 16]), FreshNonce([2; 16]))?;
 /// assert_eq!((request.kind, request.recip_nonce), (2, None));
 /// assert_eq!(board.enrolment().state, EnrolmentState::Asked);
 ///
@@ -33,15 +33,15 @@ impl EndEntity {
     /// Gives the request to be sent. A refused start makes no enrolment.
     ///
     /// ```
-    /// use duskstall_host::{EndEntity, Nonce, TransactionId};
+    /// use duskstall_host::{EndEntity, FreshNonce, TransactionId};
     ///
-    /// let refused = EndEntity::start(1, TransactionId([1; 16]), Nonce([2; 16]));
+    /// let refused = EndEntity::start(1, TransactionId([1; 16]), FreshNonce([2; 16]));
     /// assert_eq!(refused.map_err(|refusal| refusal.number), Err(32));
     /// ```
     pub fn start(
         kind: u8,
         id: TransactionId,
-        nonce: Nonce,
+        nonce: FreshNonce,
     ) -> Result<(EndEntity, Outgoing), Refusal> {
         let mut end_entity = EndEntity {
             enrolment: [0; ENROLMENT_BYTES],
@@ -95,7 +95,7 @@ impl EndEntity {
         message: &[u8],
         good: bool,
         decision: Decision,
-        nonce: Nonce,
+        nonce: FreshNonce,
     ) -> EndEntityAnswer {
         let good = match good {
             true => library::VERDICT_GOOD,

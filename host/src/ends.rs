@@ -9,9 +9,20 @@ use std::fmt;
 #[derive(Clone, Copy, Default, PartialEq, Eq, PartialOrd, Ord, Hash)]
 pub struct TransactionId(pub [u8; ID_BYTES]);
 
-/// A senderNonce or recipNonce.
+/// A senderNonce or recipNonce, of a message that came or of one to be sent.
 #[derive(Clone, Copy, Default, PartialEq, Eq, PartialOrd, Ord, Hash)]
 pub struct Nonce(pub [u8; NONCE_BYTES]);
+
+/// 16 bytes that the host draws for a nonce of its own, never twice.
+#[derive(Clone, Copy, PartialEq, Eq, PartialOrd, Ord, Hash)]
+pub struct FreshNonce(pub [u8; NONCE_BYTES]);
+
+/// As it is sent and kept.
+impl From<FreshNonce> for Nonce {
+    fn from(fresh: FreshNonce) -> Nonce {
+        Nonce(fresh.0)
+    }
+}
 
 /// The hash of a certificate, as a certConf names it.
 #[derive(Clone, Copy, Default, PartialEq, Eq, PartialOrd, Ord, Hash)]
@@ -107,6 +118,12 @@ impl fmt::Debug for TransactionId {
 }
 
 impl fmt::Debug for Nonce {
+    fn fmt(&self, to: &mut fmt::Formatter) -> fmt::Result {
+        write_hex(&self.0, to)
+    }
+}
+
+impl fmt::Debug for FreshNonce {
     fn fmt(&self, to: &mut fmt::Formatter) -> fmt::Result {
         write_hex(&self.0, to)
     }

@@ -11,13 +11,13 @@
 //! ```
 //! use duskstall_host::testing::exchange::Parts;
 //! use duskstall_host::{
-//!     Board, CertHash, Decision, EndEntity, EnrolmentState, Nonce, Registrar, TransactionId,
+//!     Board, CertHash, Decision, EndEntity, EnrolmentState, FreshNonce, Registrar, TransactionId,
 //!     TransactionState, Verdict,
 //! };
 //!
 //! // The host draws ids and nonces, hashes certificates and verifies protection.
 //! let id = TransactionId([0xA1; 16]);
-//! let nonce = |number| Nonce([number; 16]);
+//! let nonce = |number| FreshNonce([number; 16]);
 //! let hash = CertHash([0xAB; 32]);
 //! let from_board = Verdict::Good(Board(7));
 //! let encode = |outgoing| Parts::of(&outgoing).encode();
@@ -79,8 +79,8 @@ mod types;
 pub use answers::{END_ENTITY_ANSWER_BYTES, REGISTRAR_ANSWER_BYTES};
 pub use end_entity::EndEntity;
 pub use ends::{
-    Board, CertHash, Decision, EndEntityAnswer, Nonce, Outcome, Outgoing, RegistrarAnswer, Slot,
-    TransactionId, Verdict,
+    Board, CertHash, Decision, EndEntityAnswer, FreshNonce, Nonce, Outcome, Outgoing,
+    RegistrarAnswer, Slot, TransactionId, Verdict,
 };
 pub use limits::{HASH_BYTES, ID_BYTES, MESSAGE_LIMIT, NONCE_BYTES, SLOTS};
 pub use refusal::Refusal;

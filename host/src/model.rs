@@ -12,7 +12,7 @@ mod registrar;
 pub use end_entity::EndEntity;
 pub use registrar::Registrar;
 
-use crate::ends::{Nonce, Outgoing, TransactionId};
+use crate::ends::{FreshNonce, Nonce, Outgoing, TransactionId};
 use crate::refusal::Refusal;
 
 const IR: u8 = 0;
@@ -47,11 +47,11 @@ fn response_to(request: u8) -> u8 {
 }
 
 /// A message to be sent, without what only some kinds carry.
-fn plain(kind: u8, id: TransactionId, nonce: Nonce, recip_nonce: Option<Nonce>) -> Outgoing {
+fn plain(kind: u8, id: TransactionId, nonce: FreshNonce, recip_nonce: Option<Nonce>) -> Outgoing {
     Outgoing {
         kind,
         id,
-        sender_nonce: nonce,
+        sender_nonce: nonce.into(),
         recip_nonce,
         status: None,
         hash: None,

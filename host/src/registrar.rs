@@ -1,7 +1,7 @@
 //! The registrar, run by the compiled library.
 
 use crate::answers::{self, REGISTRAR_ANSWER_BYTES};
-use crate::ends::{CertHash, Nonce, RegistrarAnswer, Slot, TransactionId, Verdict};
+use crate::ends::{CertHash, FreshNonce, RegistrarAnswer, Slot, TransactionId, Verdict};
 use crate::library;
 use crate::states::{Transaction, TransactionState, TABLE_BYTES, TRANSACTION_BYTES};
 
@@ -13,20 +13,20 @@ use crate::states::{Transaction, TransactionState, TABLE_BYTES, TRANSACTION_BYTE
 ///
 /// ```
 /// use duskstall_host::testing::exchange::Parts;
-/// use duskstall_host::{Board, CertHash, EndEntity, Nonce, Outcome, Registrar};
+/// use duskstall_host::{Board, CertHash, EndEntity, FreshNonce, Nonce, Outcome, Registrar};
 /// use duskstall_host::{Slot, TransactionId, TransactionState, Verdict};
 ///
 /// let id = TransactionId([0x11; 16]);
-/// let (_, request) = EndEntity::start(0, id, Nonce([0x22; 16]))?;
+/// let (_, request) = EndEntity::start(0, id, FreshNonce([0x22; 16]))?;
 /// // The host encodes and protects what is to be sent.
 /// let bytes = Parts::of(&request).encode();
 ///
 /// let mut registrar = Registrar::new();
-/// let answer = registrar.message(&bytes, Verdict::Good(Board(7)), Nonce([0x33; 16]));
+/// let answer = registrar.message(&bytes, Verdict::Good(Board(7)), FreshNonce([0x33; 16]));
 /// assert_eq!(answer.outcome, Outcome::Done);
 /// assert_eq!(answer.slot, Some(Slot(0)));
 ///
-/// let answer = registrar.issue(id, Nonce([0x44; 16]), CertHash([0xAB; 32]));
+/// let answer = registrar.issue(id, FreshNonce([0x44; 16]), CertHash([0xAB; 32]));
 /// let response = answer.outgoing.expect("the response to the request");
 /// assert_eq!((response.kind, response.recip_nonce), (1, Some(Nonce([0x22; 16]))));
 ///
@@ -86,7 +86,12 @@ impl Registrar {
     }
 
     /// A message of any bytes. `nonce` is fresh, for what is sent.
-    pub fn message(&mut self, message: &[u8], verdict: Verdict, nonce: Nonce) -> RegistrarAnswer {
+    pub fn message(
+        &mut self,
+        message: &[u8],
+        verdict: Verdict,
+        nonce: FreshNonce,
+    ) -> RegistrarAnswer {
         let (good, board) = match verdict {
             Verdict::Bad => (library::VERDICT_BAD, 0),
             Verdict::Good(board) => (library::VERDICT_GOOD, board.0),
@@ -98,12 +103,17 @@ impl Registrar {
 
     /// Grants a request, with the hash of the certificate and a fresh nonce for
     /// the response.
-    pub fn issue(&mut self, id: TransactionId, nonce: Nonce, hash: CertHash) -> RegistrarAnswer {
+    pub fn issue(
+        &mut self,
+        id: TransactionId,
+        nonce: FreshNonce,
+        hash: CertHash,
+    ) -> RegistrarAnswer {
         self.call(|table, answer| library::registrar_issue(table, &id.0, &nonce.0, &hash.0, answer))
     }
 
     /// Refuses a request, with a fresh nonce for the response.
-    pub fn refuse(&mut self, id: TransactionId, nonce: Nonce) -> RegistrarAnswer {
+    pub fn refuse(&mut self, id: TransactionId, nonce: FreshNonce) -> RegistrarAnswer {
         self.call(|table, answer| library::registrar_refuse(table, &id.0, &nonce.0, answer))
     }
 

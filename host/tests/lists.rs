@@ -10,7 +10,7 @@ mod scene;
 
 use duskstall_host::testing::ends::{Compiled, Ends, Model};
 use duskstall_host::testing::exchange::Parts;
-use duskstall_host::{CertHash, Decision, EnrolmentState, Nonce, TransactionId};
+use duskstall_host::{CertHash, Decision, EnrolmentState, FreshNonce, TransactionId};
 use duskstall_host::{TransactionState, Verdict, SLOTS};
 use scene::{changed, good, hash, id, Scene};
 
@@ -242,7 +242,7 @@ fn cert_conf_at_refused<E: Ends>() {
 
 /// Ids, nonces and hashes of zeros are values like others.
 fn zeros_everywhere<E: Ends>() {
-    let (zero_id, zero_nonce) = (TransactionId::default(), Nonce::default());
+    let (zero_id, zero_nonce) = (TransactionId::default(), FreshNonce([0; 16]));
     let mut scene = Scene::<E>::new();
     scene.close_refused(zero_id, 30);
     let request = scene.start_with(4, zero_id, zero_nonce);

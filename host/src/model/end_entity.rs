@@ -3,7 +3,9 @@
 use super::incoming::Incoming;
 use super::{is_request, plain, refusal, refuse_if, response_to};
 use super::{ACCEPTED, CERT_CONF, ERROR, GRANTED_WITH_MODS, PKICONF, REJECTION};
-use crate::ends::{CertHash, Decision, EndEntityAnswer, Nonce, Outcome, Outgoing, TransactionId};
+use crate::ends::{
+    CertHash, Decision, EndEntityAnswer, FreshNonce, Nonce, Outcome, Outgoing, TransactionId,
+};
 use crate::refusal::Refusal;
 use crate::states::{Enrolment, EnrolmentState};
 
@@ -18,7 +20,7 @@ impl EndEntity {
     pub fn start(
         kind: u8,
         id: TransactionId,
-        nonce: Nonce,
+        nonce: FreshNonce,
     ) -> Result<(EndEntity, Outgoing), Refusal> {
         refuse_if(!is_request(kind), 32)?;
         let request = plain(kind, id, nonce, None);
@@ -40,7 +42,7 @@ impl EndEntity {
         bytes: &[u8],
         good: bool,
         decision: Decision,
-        nonce: Nonce,
+        nonce: FreshNonce,
     ) -> EndEntityAnswer {
         answer(self.take(bytes, good, decision, nonce))
     }
@@ -50,7 +52,7 @@ impl EndEntity {
         bytes: &[u8],
         good: bool,
         decision: Decision,
-        nonce: Nonce,
+        nonce: FreshNonce,
     ) -> Result<Option<Outgoing>, Refusal> {
         let message = Incoming::read(bytes)?;
         message.check_protected()?;
@@ -72,7 +74,7 @@ impl EndEntity {
         &mut self,
         message: &Incoming,
         decision: Decision,
-        nonce: Nonce,
+        nonce: FreshNonce,
     ) -> Result<Option<Outgoing>, Refusal> {
         message.check_one_entry()?;
         let granted = match message.status {

@@ -4,7 +4,8 @@ use super::incoming::Incoming;
 use super::{is_request, plain, refusal, refuse_if, response_to};
 use super::{ACCEPTED, CERT_CONF, ERROR, P10CR, PKICONF, REJECTION};
 use crate::ends::{
-    Board, CertHash, Nonce, Outcome, Outgoing, RegistrarAnswer, Slot, TransactionId, Verdict,
+    Board, CertHash, FreshNonce, Nonce, Outcome, Outgoing, RegistrarAnswer, Slot, TransactionId,
+    Verdict,
 };
 use crate::limits::SLOTS;
 use crate::refusal::Refusal;
@@ -34,7 +35,12 @@ struct Done {
 
 impl Registrar {
     /// A message step. `nonce` is fresh, for what is sent.
-    pub fn message(&mut self, bytes: &[u8], verdict: Verdict, nonce: Nonce) -> RegistrarAnswer {
+    pub fn message(
+        &mut self,
+        bytes: &[u8],
+        verdict: Verdict,
+        nonce: FreshNonce,
+    ) -> RegistrarAnswer {
         let message = match Incoming::read(bytes) {
             Ok(message) => message,
             Err(refusal) => return refused(refusal, None),
@@ -50,7 +56,7 @@ impl Registrar {
         &mut self,
         message: &Incoming,
         verdict: Verdict,
-        nonce: Nonce,
+        nonce: FreshNonce,
     ) -> Result<Done, Refusal> {
         message.check_protected()?;
         let Verdict::Good(board) = verdict else {
@@ -89,7 +95,12 @@ impl Registrar {
 
     /// A certConf: moves a transaction at Granted, and is answered once more
     /// where it moved it before.
-    fn confirm(&mut self, message: &Incoming, board: Board, nonce: Nonce) -> Result<Done, Refusal> {
+    fn confirm(
+        &mut self,
+        message: &Incoming,
+        board: Board,
+        nonce: FreshNonce,
+    ) -> Result<Done, Refusal> {
         let slot = self.find(message.id).ok_or(refusal(12))?;
         let transaction = &mut self.transactions[slot];
         let status = message.status.unwrap_or(ACCEPTED);
@@ -122,7 +133,12 @@ impl Registrar {
     }
 
     /// Asked to Granted, and the response with the certificate.
-    pub fn issue(&mut self, id: TransactionId, nonce: Nonce, hash: CertHash) -> RegistrarAnswer {
+    pub fn issue(
+        &mut self,
+        id: TransactionId,
+        nonce: FreshNonce,
+        hash: CertHash,
+    ) -> RegistrarAnswer {
         self.host_step(id, &[TransactionState::Asked], |transaction| {
             transaction.state = TransactionState::Granted;
             transaction.hash = hash;
@@ -131,7 +147,7 @@ impl Registrar {
     }
 
     /// Asked to Refused, and the response that says so.
-    pub fn refuse(&mut self, id: TransactionId, nonce: Nonce) -> RegistrarAnswer {
+    pub fn refuse(&mut self, id: TransactionId, nonce: FreshNonce) -> RegistrarAnswer {
         self.host_step(id, &[TransactionState::Asked], |transaction| {
             transaction.state = TransactionState::Refused;
             Some(respond(transaction, nonce, REJECTION))
@@ -253,7 +269,7 @@ fn wrong_state(state: TransactionState) -> Refusal {
 }
 
 /// The ip, cp or kup to a transaction's request.
-fn respond(transaction: &mut Transaction, nonce: Nonce, status: i32) -> Outgoing {
+fn respond(transaction: &mut Transaction, nonce: FreshNonce, status: i32) -> Outgoing {
     let kind = response_to(transaction.kind);
     let response = Outgoing {
         status: Some(status as u32),
@@ -265,13 +281,13 @@ fn respond(transaction: &mut Transaction, nonce: Nonce, status: i32) -> Outgoing
 
 /// "Every answer carries the id and, as recipNonce, the senderNonce of the
 /// message answered."
-fn answer_to(message: &Incoming, kind: u8, nonce: Nonce) -> Outgoing {
+fn answer_to(message: &Incoming, kind: u8, nonce: FreshNonce) -> Outgoing {
     plain(kind, message.id, nonce, Some(message.sender_nonce))
 }
 
 /// "For numbers 6 up in message steps the desk also issues an error order with
 /// status 2 and that bit."
-fn error(message: &Incoming, refusal: Refusal, nonce: Nonce) -> Outgoing {
+fn error(message: &Incoming, refusal: Refusal, nonce: FreshNonce) -> Outgoing {
     Outgoing {
         status: Some(REJECTION as u32),
         failure: refusal.bit,

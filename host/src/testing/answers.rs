@@ -1,16 +1,21 @@
 //! Whole answers of both ends, for tests to expect.
 
 use crate::ends::{
-    EndEntityAnswer, Nonce, Outcome, Outgoing, RegistrarAnswer, Slot, TransactionId,
+    EndEntityAnswer, FreshNonce, Nonce, Outcome, Outgoing, RegistrarAnswer, Slot, TransactionId,
 };
 use crate::refusal::Refusal;
 
 /// An outgoing message without contents.
-pub fn plain(kind: u8, id: TransactionId, sender_nonce: Nonce, recip_nonce: Nonce) -> Outgoing {
+pub fn plain(
+    kind: u8,
+    id: TransactionId,
+    sender_nonce: FreshNonce,
+    recip_nonce: Nonce,
+) -> Outgoing {
     Outgoing {
         kind,
         id,
-        sender_nonce,
+        sender_nonce: sender_nonce.into(),
         recip_nonce: Some(recip_nonce),
         status: None,
         hash: None,
@@ -19,7 +24,7 @@ pub fn plain(kind: u8, id: TransactionId, sender_nonce: Nonce, recip_nonce: Nonc
 }
 
 /// The error message that a registrar refuses a message with.
-pub fn error(id: TransactionId, sender_nonce: Nonce, recip_nonce: Nonce, bit: u8) -> Outgoing {
+pub fn error(id: TransactionId, sender_nonce: FreshNonce, recip_nonce: Nonce, bit: u8) -> Outgoing {
     Outgoing {
         status: Some(2),
         failure: Some(bit),

@@ -2,8 +2,8 @@
 //! model, so that a test is written once and runs on both.
 
 use crate::ends::{
-    CertHash, Decision, EndEntityAnswer, Nonce, Outgoing, RegistrarAnswer, Slot, TransactionId,
-    Verdict,
+    CertHash, Decision, EndEntityAnswer, FreshNonce, Outgoing, RegistrarAnswer, Slot,
+    TransactionId, Verdict,
 };
 use crate::refusal::Refusal;
 use crate::states::{Enrolment, Transaction};
@@ -34,9 +34,9 @@ impl Ends for Model {
 /// A registrar.
 pub trait RegistrarEnd: Clone + PartialEq {
     fn empty() -> Self;
-    fn message(&mut self, message: &[u8], verdict: Verdict, nonce: Nonce) -> RegistrarAnswer;
-    fn issue(&mut self, id: TransactionId, nonce: Nonce, hash: CertHash) -> RegistrarAnswer;
-    fn refuse(&mut self, id: TransactionId, nonce: Nonce) -> RegistrarAnswer;
+    fn message(&mut self, message: &[u8], verdict: Verdict, nonce: FreshNonce) -> RegistrarAnswer;
+    fn issue(&mut self, id: TransactionId, nonce: FreshNonce, hash: CertHash) -> RegistrarAnswer;
+    fn refuse(&mut self, id: TransactionId, nonce: FreshNonce) -> RegistrarAnswer;
     fn lapse(&mut self, id: TransactionId) -> RegistrarAnswer;
     fn close(&mut self, id: TransactionId) -> RegistrarAnswer;
     /// The slots in use and what they hold.
@@ -52,13 +52,13 @@ pub trait RegistrarEnd: Clone + PartialEq {
 
 /// An end entity with one enrolment.
 pub trait EndEntityEnd: Clone + PartialEq {
-    fn start(kind: u8, id: TransactionId, nonce: Nonce) -> Result<(Self, Outgoing), Refusal>;
+    fn start(kind: u8, id: TransactionId, nonce: FreshNonce) -> Result<(Self, Outgoing), Refusal>;
     fn message(
         &mut self,
         message: &[u8],
         good: bool,
         decision: Decision,
-        nonce: Nonce,
+        nonce: FreshNonce,
     ) -> EndEntityAnswer;
     fn time_out(&mut self) -> EndEntityAnswer;
     fn enrolment(&self) -> Enrolment;
@@ -76,7 +76,7 @@ macro_rules! same_calls {
                 &mut self,
                 message: &[u8],
                 verdict: Verdict,
-                nonce: Nonce,
+                nonce: FreshNonce,
             ) -> RegistrarAnswer {
                 self.message(message, verdict, nonce)
             }
@@ -84,13 +84,13 @@ macro_rules! same_calls {
             fn issue(
                 &mut self,
                 id: TransactionId,
-                nonce: Nonce,
+                nonce: FreshNonce,
                 hash: CertHash,
             ) -> RegistrarAnswer {
                 self.issue(id, nonce, hash)
             }
 
-            fn refuse(&mut self, id: TransactionId, nonce: Nonce) -> RegistrarAnswer {
+            fn refuse(&mut self, id: TransactionId, nonce: FreshNonce) -> RegistrarAnswer {
                 self.refuse(id, nonce)
             }
 
@@ -111,7 +111,7 @@ macro_rules! same_calls {
             fn start(
                 kind: u8,
                 id: TransactionId,
-                nonce: Nonce,
+                nonce: FreshNonce,
             ) -> Result<(Self, Outgoing), Refusal> {
                 <$end_entity>::start(kind, id, nonce)
             }
@@ -121,7 +121,7 @@ macro_rules! same_calls {
                 message: &[u8],
                 good: bool,
                 decision: Decision,
-                nonce: Nonce,
+                nonce: FreshNonce,
             ) -> EndEntityAnswer {
                 self.message(message, good, decision, nonce)
             }

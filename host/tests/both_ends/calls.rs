@@ -5,7 +5,7 @@ use super::pack;
 use duskstall_host::library::{self, BAD_LENGTH, NO_ROOM, NO_STATE};
 use duskstall_host::model::{EndEntity, Registrar};
 use duskstall_host::{
-    Board, CertHash, Decision, EndEntityAnswer, Enrolment, Nonce, Outcome, RegistrarAnswer,
+    Board, CertHash, Decision, EndEntityAnswer, Enrolment, FreshNonce, Outcome, RegistrarAnswer,
     TransactionId, Verdict, END_ENTITY_ANSWER_BYTES, ENROLMENT_BYTES, REGISTRAR_ANSWER_BYTES,
 };
 
@@ -205,8 +205,8 @@ fn to_id(bytes: &[u8]) -> Option<TransactionId> {
     Some(TransactionId(bytes.try_into().ok()?))
 }
 
-fn to_nonce(bytes: &[u8]) -> Option<Nonce> {
-    Some(Nonce(bytes.try_into().ok()?))
+fn to_nonce(bytes: &[u8]) -> Option<FreshNonce> {
+    Some(FreshNonce(bytes.try_into().ok()?))
 }
 
 fn to_hash(bytes: &[u8]) -> Option<CertHash> {

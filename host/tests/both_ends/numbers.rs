@@ -4,8 +4,8 @@
 use duskstall_host::library::{self, DECISION_ACCEPT, DECISION_DECLINE, VERDICT_BAD, VERDICT_GOOD};
 use duskstall_host::testing::exchange::Parts;
 use duskstall_host::{
-    Board, CertHash, Enrolment, EnrolmentState, Nonce, Outgoing, Transaction, TransactionId,
-    TransactionState, END_ENTITY_ANSWER_BYTES, REGISTRAR_ANSWER_BYTES, TABLE_BYTES,
+    Board, CertHash, Enrolment, EnrolmentState, FreshNonce, Nonce, Outgoing, Transaction,
+    TransactionId, TransactionState, END_ENTITY_ANSWER_BYTES, REGISTRAR_ANSWER_BYTES, TABLE_BYTES,
     TRANSACTION_BYTES,
 };
 use std::collections::BTreeMap;
@@ -19,7 +19,7 @@ const HASH: CertHash = CertHash([0xAB; 32]);
 /// The last nonces of either end, and the one that is handed in.
 const SENT: Nonce = Nonce([0x22; 16]);
 const TAKEN: Nonce = Nonce([0x33; 16]);
-const FRESH: Nonce = Nonce([0x44; 16]);
+const FRESH: FreshNonce = FreshNonce([0x44; 16]);
 
 /// The refusal of a bad verdict, and its bit.
 const BAD: [u8; 2] = [7, 1];

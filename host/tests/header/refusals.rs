@@ -3,7 +3,7 @@
 use duskstall_host::testing::exchange::{Certificate, Parts};
 use duskstall_host::testing::random::Random;
 use duskstall_host::{Board, CertHash, Decision, EndEntity, Nonce, Outcome, Refusal, Registrar};
-use duskstall_host::{Enrolment, Transaction, TransactionId, Verdict};
+use duskstall_host::{Enrolment, FreshNonce, Transaction, TransactionId, Verdict};
 use duskstall_host::{ENROLMENT_STATES, SLOTS, TRANSACTION_BYTES, TRANSACTION_STATES};
 use std::collections::{BTreeMap, BTreeSet};
 
@@ -85,7 +85,7 @@ fn call(random: &mut Random) -> Option<Refusal> {
     let mut board = end_entity(random);
     let message = message(random);
     let id = TransactionId(sixteen(random));
-    let nonce = Nonce(sixteen(random));
+    let nonce = FreshNonce(sixteen(random));
     let decision = Decision {
         accept: true,
         hash: hash(random),

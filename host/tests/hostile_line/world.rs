@@ -4,9 +4,9 @@
 use super::coverage::Coverage;
 use super::history::{History, Sender};
 use duskstall_host::{
-    independent, Board, CertHash, Decision, EndEntity, EnrolmentState, Nonce, Outcome, Outgoing,
-    Refusal, Registrar, RegistrarAnswer, Slot, Transaction, TransactionId, TransactionState,
-    Verdict,
+    independent, Board, CertHash, Decision, EndEntity, EnrolmentState, FreshNonce, Nonce, Outcome,
+    Outgoing, Refusal, Registrar, RegistrarAnswer, Slot, Transaction, TransactionId,
+    TransactionState, Verdict,
 };
 
 /// One enrolment of a board.
@@ -38,13 +38,13 @@ impl World {
         }
     }
 
-    fn nonce(&self) -> Nonce {
-        Nonce(self.nonces.to_be_bytes())
+    fn nonce(&self) -> FreshNonce {
+        FreshNonce(self.nonces.to_be_bytes())
     }
 
     fn note_sent(&mut self, sender: Sender, outgoing: Option<Outgoing>) {
         if let Some(outgoing) = outgoing {
-            assert_eq!(outgoing.sender_nonce, self.nonce());
+            assert_eq!(outgoing.sender_nonce, self.nonce().into());
             self.history.note_sent(sender, outgoing);
             self.nonces += 1;
         }

@@ -2,7 +2,7 @@
 
 use duskstall_host::testing::answers::plain;
 use duskstall_host::testing::exchange::Parts;
-use duskstall_host::{Nonce, Outgoing, TransactionId};
+use duskstall_host::{FreshNonce, Nonce, Outgoing, TransactionId};
 
 pub fn id_in(message: &Parts) -> TransactionId {
     TransactionId(sixteen(&message.id))
@@ -20,7 +20,7 @@ fn sixteen(part: &Option<Vec<u8>>) -> [u8; 16] {
 pub fn response(
     request: u8,
     id: TransactionId,
-    nonce: Nonce,
+    nonce: FreshNonce,
     taken: Nonce,
     status: u32,
 ) -> Outgoing {

@@ -9,7 +9,7 @@ use duskstall_host::testing::answers::{
 use duskstall_host::testing::ends::{EndEntityEnd, Ends, RegistrarEnd};
 use duskstall_host::testing::exchange::Parts;
 use duskstall_host::{
-    Board, CertHash, Decision, EndEntityAnswer, EnrolmentState, Nonce, Outcome, Outgoing,
+    Board, CertHash, Decision, EndEntityAnswer, EnrolmentState, FreshNonce, Outcome, Outgoing,
     RegistrarAnswer, TransactionId, TransactionState, Verdict,
 };
 
@@ -50,9 +50,9 @@ impl<E: Ends> Scene<E> {
         }
     }
 
-    fn draw(&mut self) -> Nonce {
+    fn draw(&mut self) -> FreshNonce {
         self.drawn += 1;
-        Nonce((u128::MAX - self.drawn).to_be_bytes())
+        FreshNonce((u128::MAX - self.drawn).to_be_bytes())
     }
 
     // At the boards.
@@ -63,12 +63,12 @@ impl<E: Ends> Scene<E> {
         self.start_with(0, id, nonce)
     }
 
-    pub fn start_with(&mut self, kind: u8, id: TransactionId, nonce: Nonce) -> Parts {
+    pub fn start_with(&mut self, kind: u8, id: TransactionId, nonce: FreshNonce) -> Parts {
         let started = E::EndEntity::start(kind, id, nonce);
         let (board, request) = started.expect("the kind is one of a request");
         let expected = Outgoing {
             recip_nonce: None,
-            ..plain(kind, id, nonce, nonce)
+            ..plain(kind, id, nonce, nonce.into())
         };
         assert_eq!(request, expected);
         self.boards.push(board);
@@ -93,7 +93,7 @@ impl<E: Ends> Scene<E> {
         board: usize,
         response: &Parts,
         decision: Decision,
-        nonce: Nonce,
+        nonce: FreshNonce,
     ) -> Parts {
         let id = self.boards[board].enrolment().id;
         let answer = self.boards[board].message(&response.encode(), true, decision, nonce);
@@ -173,13 +173,13 @@ impl<E: Ends> Scene<E> {
         self.issue_with(id, nonce, hash)
     }
 
-    pub fn issue_with(&mut self, id: TransactionId, nonce: Nonce, hash: CertHash) -> Parts {
+    pub fn issue_with(&mut self, id: TransactionId, nonce: FreshNonce, hash: CertHash) -> Parts {
         let (slot, before) = self.registrar.find(id).expect("it was opened");
         let sent = response(before.kind, id, nonce, before.taken, 0);
         let answer = self.registrar.issue(id, nonce, hash);
         assert_eq!(answer, registrar_done(slot.0, Some(sent)));
         let (_, after) = self.registrar.find(id).expect("it is there");
-        assert_eq!((after.sent, after.hash), (nonce, hash));
+        assert_eq!((after.sent, after.hash), (nonce.into(), hash));
         self.registrar_says(id, TransactionState::Granted);
         Parts::of(&sent)
     }

@@ -4,10 +4,10 @@
 
 use super::exchange::{Exchange, Message};
 use duskstall_host::testing::answers::{board_done, board_refused};
-use duskstall_host::{CertHash, Decision, EndEntity, EnrolmentState, Nonce};
+use duskstall_host::{CertHash, Decision, EndEntity, EnrolmentState, FreshNonce};
 
 /// Handed in where nothing is sent.
-const OTHER: Nonce = Nonce([0x5A; 16]);
+const OTHER: FreshNonce = FreshNonce([0x5A; 16]);
 
 /// Handed in where no certificate is decided on.
 const UNUSED: Decision = Decision {
@@ -17,7 +17,7 @@ const UNUSED: Decision = Decision {
 
 /// The end entity sends what OpenSSL's client sent.
 fn start(request: &Message) -> EndEntity {
-    let started = EndEntity::start(request.reading.kind, request.id(), request.sender_nonce());
+    let started = EndEntity::start(request.reading.kind, request.id(), request.drawn_nonce());
     let (board, sent) = started.expect("a request opens an enrolment");
     assert_eq!(sent, request.as_outgoing());
     says_now(&board, EnrolmentState::Asked);
@@ -50,7 +50,7 @@ pub fn is_sure(exchange: &Exchange) {
     refuse_altered(&mut board, response);
     let hash = response.issued().expect("the server issued a certificate");
     let decision = Decision { accept: true, hash };
-    let nonce = cert_conf.sender_nonce();
+    let nonce = cert_conf.drawn_nonce();
     let answer = board.message(&response.bytes, true, decision, nonce);
     assert_eq!(answer, board_done(Some(cert_conf.as_outgoing())));
     says_now(&board, EnrolmentState::Confirming);
@@ -79,12 +79,12 @@ pub fn refuses_by_16(exchange: &Exchange) {
 /// is no such start. Each response is met with the nonce of the next request.
 pub fn says(exchange: &Exchange) -> (Vec<u8>, Option<EnrolmentState>) {
     let request = &exchange.requests[0];
-    let started = EndEntity::start(request.reading.kind, request.id(), request.sender_nonce());
+    let started = EndEntity::start(request.reading.kind, request.id(), request.drawn_nonce());
     let mut board = match started {
         Ok((board, _)) => board,
         Err(refusal) => return (vec![refusal.number], None),
     };
-    let nonces = exchange.requests[1..].iter().map(Message::sender_nonce);
+    let nonces = exchange.requests[1..].iter().map(Message::drawn_nonce);
     let mut said = Vec::new();
     for (response, nonce) in exchange.responses.iter().zip(nonces.chain([OTHER])) {
         let hash = response.issued().unwrap_or_default();

@@ -2,7 +2,7 @@
 
 use duskstall_host::testing::sha256::sha256;
 use duskstall_host::{compiled, independent};
-use duskstall_host::{CertHash, Nonce, Outgoing, Reading, Span, TransactionId};
+use duskstall_host::{CertHash, FreshNonce, Nonce, Outgoing, Reading, Span, TransactionId};
 
 /// A message and its reading by the library.
 pub struct Message {
@@ -32,6 +32,11 @@ impl Message {
 
     pub fn sender_nonce(&self) -> Nonce {
         Nonce(self.sixteen(self.reading.sender_nonce))
+    }
+
+    /// The same, as its sender drew it: for an end of ours in the sender's place.
+    pub fn drawn_nonce(&self) -> FreshNonce {
+        FreshNonce(self.sixteen(self.reading.sender_nonce))
     }
 
     /// The hash of the plain certificate in a response, if there is one.

@@ -5,7 +5,8 @@
 use super::exchange::{Exchange, Message};
 use duskstall_host::testing::answers::{error, registrar_done, registrar_refused};
 use duskstall_host::{
-    Board, Nonce, Outcome, Registrar, RegistrarAnswer, Slot, Transaction, TransactionState, Verdict,
+    Board, FreshNonce, Outcome, Registrar, RegistrarAnswer, Slot, Transaction, TransactionState,
+    Verdict,
 };
 
 const BOARD: Board = Board(7);
@@ -13,7 +14,7 @@ const GOOD: Verdict = Verdict::Good(BOARD);
 const NEIGHBOUR: Verdict = Verdict::Good(Board(8));
 
 /// Handed in where nothing is sent, or an error.
-const OTHER: Nonce = Nonce([0x5A; 16]);
+const OTHER: FreshNonce = FreshNonce([0x5A; 16]);
 
 /// The request is taken, and the host issues the certificate that OpenSSL's
 /// server issued.
@@ -26,7 +27,7 @@ fn grant(exchange: &Exchange) -> Registrar {
     holds(&registrar, asked(request));
 
     let hash = response.issued().expect("the server issued a certificate");
-    let answer = registrar.issue(request.id(), response.sender_nonce(), hash);
+    let answer = registrar.issue(request.id(), response.drawn_nonce(), hash);
     assert_eq!(answer, registrar_done(0, Some(response.as_outgoing())));
     holds(&registrar, granted(exchange));
     registrar
@@ -79,7 +80,7 @@ pub fn confirms(exchange: &Exchange) {
     refuse(&mut registrar, &altered, GOOD, 14, 13);
     refuse(&mut registrar, cert_conf, NEIGHBOUR, 13, 23);
 
-    let answer = registrar.message(&cert_conf.bytes, GOOD, pkiconf.sender_nonce());
+    let answer = registrar.message(&cert_conf.bytes, GOOD, pkiconf.drawn_nonce());
     let done = registrar_done(0, Some(pkiconf.as_outgoing()));
     assert_eq!(answer, done);
     let confirmed = Transaction {
@@ -93,7 +94,7 @@ pub fn confirms(exchange: &Exchange) {
         outcome: Outcome::Again,
         ..done
     };
-    let answer = registrar.message(&cert_conf.bytes, GOOD, pkiconf.sender_nonce());
+    let answer = registrar.message(&cert_conf.bytes, GOOD, pkiconf.drawn_nonce());
     assert_eq!(answer, again);
     holds(&registrar, confirmed);
 }
@@ -124,9 +125,9 @@ pub fn says(exchange: &Exchange) -> (Vec<u8>, Option<TransactionState>) {
         if said == [0] {
             let answer = match exchange.granting() {
                 Some((response, hash)) => {
-                    registrar.issue(request.id(), response.sender_nonce(), hash)
+                    registrar.issue(request.id(), response.drawn_nonce(), hash)
                 }
-                None => registrar.refuse(request.id(), exchange.responses[0].sender_nonce()),
+                None => registrar.refuse(request.id(), exchange.responses[0].drawn_nonce()),
             };
             assert_eq!(answer.outcome, Outcome::Done);
         }

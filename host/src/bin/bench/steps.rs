@@ -7,7 +7,7 @@ use crate::reading::proved_reading;
 use duskstall_host::library;
 use duskstall_host::testing::chains::chain_message;
 use duskstall_host::testing::exchange::Parts;
-use duskstall_host::{Board, CertHash, Decision, EndEntity, Nonce, Outgoing, Registrar};
+use duskstall_host::{Board, CertHash, Decision, EndEntity, FreshNonce, Outgoing, Registrar};
 use duskstall_host::{TransactionId, Verdict, END_ENTITY_ANSWER_BYTES};
 use duskstall_host::{MESSAGE_LIMIT, REGISTRAR_ANSWER_BYTES, SLOTS};
 use std::hint::black_box;
@@ -16,7 +16,7 @@ use std::hint::black_box;
 const CALLS: usize = 500;
 
 const ID: TransactionId = TransactionId([0xFF; 16]);
-const NONCE: Nonce = Nonce([0x33; 16]);
+const NONCE: FreshNonce = FreshNonce([0x33; 16]);
 const HASH: CertHash = CertHash([0xAB; 32]);
 const GOOD: Verdict = Verdict::Good(Board(1));
 
@@ -107,7 +107,7 @@ pub fn at_end_entity() {
 
     // The id and the recipNonce in its header.
     let [id, nonce] = [[4; 16], [6; 16]];
-    let (end_entity, _) = EndEntity::start(0, TransactionId(id), Nonce(nonce)).expect("an ir");
+    let (end_entity, _) = EndEntity::start(0, TransactionId(id), FreshNonce(nonce)).expect("an ir");
     let longest = chain_message(MESSAGE_LIMIT);
     board_step("ip at an end entity", &end_entity, &longest);
 }

@@ -7,7 +7,7 @@ use crate::show;
 use duskstall_host::testing::exchange::Parts;
 use duskstall_host::testing::random::Random;
 use duskstall_host::{
-    Board, CertHash, Decision, EndEntity, EnrolmentState, Nonce, Outgoing, Registrar,
+    Board, CertHash, Decision, EndEntity, EnrolmentState, FreshNonce, Outgoing, Registrar,
     TransactionId, TransactionState, Verdict,
 };
 use std::collections::BTreeMap;
@@ -134,7 +134,7 @@ impl World {
     /// Each board starts its enrolment.
     pub fn start_all(&mut self, line: &mut Line) {
         for (place, (kind, accepts)) in BOARDS.into_iter().enumerate() {
-            let (id, nonce) = (TransactionId(self.draw()), Nonce(self.draw()));
+            let (id, nonce) = (TransactionId(self.draw()), FreshNonce(self.draw()));
             let (end, request) = EndEntity::start(kind, id, nonce).expect("a kind of request");
             let from = End::Board(place);
             let packet = self.packet(from, End::Registrar, request);
@@ -171,7 +171,7 @@ impl World {
             Some(End::Board(place)) => Verdict::Good(self.boards[place].number),
             _ => Verdict::Bad,
         };
-        let nonce = Nonce(self.draw());
+        let nonce = FreshNonce(self.draw());
         let id = packet.outgoing.id;
         let before = self.state_of(id);
         let answer = self.registrar.message(&packet.bytes, verdict, nonce);
@@ -188,7 +188,7 @@ impl World {
 
     fn board_gets(&mut self, place: usize, packet: &Packet, line: &mut Line) {
         let good = self.verify(&packet.bytes) == Some(End::Registrar);
-        let nonce = Nonce(self.draw());
+        let nonce = FreshNonce(self.draw());
         let board = &mut self.boards[place];
         let before = board.end.enrolment();
         // The host hashes the certificate in the message, which is the issued
@@ -252,7 +252,7 @@ impl World {
     }
 
     fn issue(&mut self, id: TransactionId, line: &mut Line) {
-        let (nonce, hash) = (Nonce(self.draw()), CertHash(self.draw()));
+        let (nonce, hash) = (FreshNonce(self.draw()), CertHash(self.draw()));
         let answer = self.registrar.issue(id, nonce, hash);
         self.certificates.insert(id, hash);
         self.called();
