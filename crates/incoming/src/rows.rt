@@ -129,6 +129,10 @@ pub fn bit_of(number: u8, confirmed: bool) -> FailureInfo
         18 => FailureInfo::Bit(2),
         19 => FailureInfo::Bit(4),
         20 => bit_of_20(confirmed),
+        21 => FailureInfo::NoBit,
+        30 => FailureInfo::NoBit,
+        31 => FailureInfo::NoBit,
+        32 => FailureInfo::NoBit,
         _ => FailureInfo::NoBit,
     }
 }

@@ -44,8 +44,8 @@ abbrev pub packOutgoing : Outgoing → List ℕ
 packOutgoing o = packNames o ++ packContents (o .contents)
 
 -- what these bytes say that a message carries
-abbrev pub contentsOf : List ℕ → Contents
-contentsOf s =
+abbrev pub outgoingContentsOf : List ℕ → Contents
+outgoingContentsOf s =
     record {
       «has_status» = flagAt outgoingHasStatusAt s;
       status = fourAt outgoingStatusAt s;
@@ -62,7 +62,7 @@ outgoingOf s =
       «sender_nonce» = record { bytes = part outgoingSenderNonceAt nonceBytes s };
       «has_recip_nonce» = flagAt outgoingHasRecipNonceAt s;
       «recip_nonce» = record { bytes = part outgoingRecipNonceAt nonceBytes s };
-      contents = contentsOf s;
+      contents = outgoingContentsOf s;
     }
 
 -- for the theorems: the arrays have their lengths, and no bit is 255

@@ -20,7 +20,7 @@ use Rattle.protocol.specs.Bytes.{asId, asNonce, present, isNonce, sameBy
 use Rattle.protocol.specs.Message.{fieldsOf, Fields, isOpeningKind, isPresent, statusOr0, optionalStatus}
 use Rattle.protocol.specs.Table.{hasFreeSlot, lookup, slotOf, replace}
 use Rattle.protocol.specs.States.{hasSent, isHashed, hasHash, isGranted, settledState, settledBy}
-use Rattle.protocol.specs.Refusals.{otherVersion, noTransactionId, noSenderNonce, unprotected, pass, lowestRow, noFault}
+use Rattle.protocol.specs.Refusals.{pass, lowestRow, noFault}
 use Rattle.protocol.specs.RegistrarRows.{repeats, confirms, opens, oneEntry, isGood, otherKind, confirmsForAnother, names, confirmsOtherNonce, notOneEntry, hasEntries, otherRequest, hashAlgTooEarly, otherStatus, otherHash, notTaken, registrarRows}
 use Rattle.protocol.specs.Registrar.{registrarMessage, confirmed, doneSending}
 use Rattle.protocol.specs.MessageRules.{IsRefused}
@@ -31,7 +31,8 @@ use Rattle.protocol.proofs.Rows.{check-is, skip, through}
 use Rattle.protocol.proofs.RegistrarPromises.{message-promise}
 use Rattle.protocol.proofs.Slots.{first-at, sending-becomes}
 use Rattle.protocol.proofs.RegistrarPasses.{confirms-it}
-use Rattle.protocol.proofs.ConfirmationMoves.{present-test, part-present, present-part, message-at, fields-at, Ends, EndsWith, ends}
+use Rattle.protocol.proofs.HeadRows.{passes-head}
+use Rattle.protocol.proofs.ConfirmationMoves.{present-part, message-at, fields-at, Ends, EndsWith, ends}
 
 module _ (t : TransactionTable) (d : RegistrarInput) (bytes : List ℕ) (m : Message) (r : Transaction) (c : Matches t d bytes m r) where
   id-is : asId (fieldsOf bytes m .id) ≡ c .id
@@ -60,24 +61,8 @@ module _ (t : TransactionTable) (d : RegistrarInput) (bytes : List ℕ) (m : Mes
   unfolding fieldsOf
   one-entry = same-number (f .entries) 1 (c .entries)
 
-  row-3 : otherVersion f ≡ false
-  unfolding fieldsOf
-  row-3 = holds-not (eqb (f .version) 2 || eqb (f .version) 3) (either (f .version) 2 3 (c .version))
-
-  row-4 : noTransactionId f ≡ false
-  unfolding fieldsOf
-  row-4 = present-test bytes (m .header .«transaction_id») (c .id .bytes) (c .hasId)
-
-  row-5 : noSenderNonce f ≡ false
-  unfolding fieldsOf
-  row-5 = present-test bytes (m .header .«sender_nonce») (c .nonce .bytes) (c .senderNonce)
-
-  row-6 : unprotected f ≡ false
-  unfolding fieldsOf
-  row-6 = holds-not (f .protected) (both (isPresent (m .protection)) (isPresent (m .header .«protection_alg»)) (part-present (m .protection) (c .protection)) (part-present (m .header .«protection_alg») (c .algorithm)))
-
-  row-7 : not (isGood (d .verdict)) ≡ false
-  row-7 = rw (c .good)
+  good-it : isGood (d .verdict) ≡ true
+  good-it = rw (c .good)
 
   row-8 : otherKind f ≡ false
   row-8 = holds-not (opens f || confirms f) (or-true (opens f) (confirms f) conf)
@@ -128,9 +113,9 @@ module _ (t : TransactionTable) (d : RegistrarInput) (bytes : List ℕ) (m : Mes
   passes-all : lowestRow (registrarRows (t .transactions) (some r) (d .verdict) f) ≡ pass
   unfolding registrarRows
   passes-all =
-      check-is (skip row-3 (skip row-4 (skip row-5 (skip row-6 (skip row-7 (skip row-8
+      check-is (passes-head bytes m (c .version) (c .hasId) (c .senderNonce) (c .protection) (c .algorithm) good-it (skip row-8
       (skip (off-left (opens f) (present (f .recipNonce)) no-request) (skip (off-left (opens f) true no-request) (skip (off-left (opens f) (not (hasFreeSlot (t .transactions))) no-request)
-      (skip (off-right (confirms f) false refl) (skip row-13 (skip row-14 (skip row-15 (skip row-16 (skip row-17 (skip row-18 (skip row-19 (skip row-20 through))))))))))))))))))
+      (skip (off-right (confirms f) false refl) (skip row-13 (skip row-14 (skip row-15 (skip row-16 (skip row-17 (skip row-18 (skip row-19 (skip row-20 through))))))))))))))
 
   pub passed : registrarMessage t d bytes ≡ confirmed t r (d .nonce) f
   passed = message-at t d bytes m (c .reads) ∙ fields-at t d bytes m (some r) (ap (lookup (t .transactions)) (id-is t d bytes m r c) ∙ c .holds) pass passes-all ∙ confirms-it t d f r no-request conf

@@ -13,16 +13,17 @@ use Rattle.protocol.specs.declared.EnrolmentState.{EnrolmentState}
 use Rattle.protocol.specs.declared.Enrolment.{Enrolment}
 use Rattle.protocol.specs.declared.EnrolmentState.the-variants.{Asked, Confirming, Declining, Failed, Unsettled}
 use Rattle.protocol.specs.Bytes.{isId, isNonce, asNonce}
-use Rattle.protocol.specs.Message.{Fields, fieldsOf, isPresent, statusOr0, optionalStatus, isResponse, responseTo}
+use Rattle.protocol.specs.Message.{Fields, fieldsOf, statusOr0, optionalStatus, isResponse, responseTo}
 use Rattle.protocol.specs.States.{isConfirming, assured, isWaiting, brokenState}
-use Rattle.protocol.specs.Refusals.{otherVersion, noTransactionId, noSenderNonce, unprotected, pass, LowestRow}
+use Rattle.protocol.specs.Refusals.{pass, LowestRow}
 use Rattle.protocol.specs.EndEntityRows.{otherId, otherNonce, otherAnswer, notOneResponse, otherNumber, badStatus, notAwaited, noCertificate, endEntityRows, responds, reports, oneResponse, acknowledges, hasStatus}
 use Rattle.protocol.specs.EndEntity.{endEntityMessage, endEntityChecked, confirming, responseTaken}
 use Rattle.protocol.specs.EnrolmentRules.{Heard, StatusIs, Acknowledges, becomes, Reports, Responds, EnrolmentRule}
-use Rattle.protocol.proofs.Tests.{holds-not, either, both, sameBytes-refl, true-false, off-left, off-right, same-number, or-true, other-than, response-kinds, is-response}
+use Rattle.protocol.proofs.Tests.{holds-not, sameBytes-refl, true-false, off-left, off-right, same-number, or-true, other-than, response-kinds, is-response}
 use Rattle.protocol.proofs.Carried.{part-there}
 use Rattle.protocol.proofs.Rows.{check-is, skip, through}
-use Rattle.protocol.proofs.ConfirmationMoves.{present-test, part-present}
+use Rattle.protocol.proofs.HeadRows.{passes-head}
+use Rattle.protocol.proofs.ConfirmationMoves.{part-present}
 use Rattle.protocol.proofs.EnrolmentTakes.{answer-at, takes-only}
 
 module _ (x : Enrolment) (d : EndEntityInput) (bytes : List ℕ) (m : Message) (c : Heard x d bytes m) where
@@ -30,22 +31,6 @@ module _ (x : Enrolment) (d : EndEntityInput) (bytes : List ℕ) (m : Message) (
   f = fieldsOf bytes m
 
   -- ## The rows that every message passes
-
-  version-off : otherVersion f ≡ false
-  unfolding fieldsOf
-  version-off = holds-not (eqb (f .version) 2 || eqb (f .version) 3) (either (f .version) 2 3 (c .version))
-
-  id-off : noTransactionId f ≡ false
-  unfolding fieldsOf
-  id-off = present-test bytes (m .header .«transaction_id») (x .id .bytes) (c .hasId)
-
-  nonce-off : noSenderNonce f ≡ false
-  unfolding fieldsOf
-  nonce-off = present-test bytes (m .header .«sender_nonce») (c .nonce .bytes) (c .senderNonce)
-
-  protection-off : unprotected f ≡ false
-  unfolding fieldsOf
-  protection-off = holds-not (f .protected) (both (isPresent (m .protection)) (isPresent (m .header .«protection_alg»)) (part-present (m .protection) (c .protection)) (part-present (m .header .«protection_alg») (c .algorithm)))
 
   own-off : otherId x f ≡ false
   unfolding fieldsOf
@@ -62,7 +47,7 @@ module _ (x : Enrolment) (d : EndEntityInput) (bytes : List ℕ) (m : Message) (
   passed r8 r15 r16 r18 r20 r21 =
       answer-at x d bytes m (c .reads)
       ∙ ap (λ (k : LowestRow). endEntityChecked k x d f)
-      (check-is (skip version-off (skip id-off (skip nonce-off (skip protection-off (skip (holds-not (d .good) (c .good)) (skip r8 (skip own-off (skip last-off (skip r15 (skip r16 (skip r18 (skip r20 (skip r21 through))))))))))))))
+      (check-is (passes-head bytes m (c .version) (c .hasId) (c .senderNonce) (c .protection) (c .algorithm) (c .good) (skip r8 (skip own-off (skip last-off (skip r15 (skip r16 (skip r18 (skip r20 (skip r21 through))))))))))
 
   nonce-is : asNonce (f .senderNonce) ≡ c .nonce
   unfolding fieldsOf

@@ -20,6 +20,7 @@ pub mod Slots
 pub mod Rows
 pub mod RegistrarPromises
 pub mod ConfirmationMoves
+pub mod HeadRows
 pub mod ConfirmationRule
 pub mod Reachable
 pub mod TheTransaction

@@ -25,18 +25,19 @@ use Rattle.protocol.specs.Bytes.{present, asId, asNonce, noNonce, noHash
 use Rattle.grammar.specs.Span.{partOf}
 use Rattle.protocol.specs.Message.{optionalPart, Fields, fieldsOf, isPresent, isOpeningKind}
 use Rattle.protocol.specs.Table.{put, lookup, hasFreeSlot, freeSlot}
-use Rattle.protocol.specs.Refusals.{lowestRow, Row, pass, LowestRow, stop, otherVersion, noTransactionId, noSenderNonce, unprotected}
+use Rattle.protocol.specs.Refusals.{lowestRow, Row, pass, LowestRow, stop}
 use Rattle.protocol.specs.RegistrarRows.{isGood, registrarRows, oneEntry, hasEntries, opens, confirms, opensWithNonce}
 use Rattle.protocol.specs.Registrar.{registrarChecked, registrarMessage, openedTransaction, doneQuietly}
 use Rattle.protocol.specs.Confirmation.{Sixteen}
 use Rattle.protocol.specs.Request.{IsRequest, Opening, Opened, RequestRule}
 use Rattle.der.proofs.Auto.{and-left, and-right}
-use Rattle.protocol.proofs.Tests.{true-false, eqb-eq, not-false, passes, request-kind, and-false, one-of, both, off-left, off-right, holds-not, same-number, either}
+use Rattle.protocol.proofs.Tests.{true-false, eqb-eq, not-false, passes, request-kind, and-false, one-of, both, off-left, off-right, holds-not, same-number}
 use Rattle.protocol.proofs.Carried.{part-there, part-absent}
 use Rattle.protocol.proofs.RegistrarPasses.{passes-7, room, opens-it, taken-by}
 use Rattle.protocol.proofs.Rows.{check-is, skip, through}
 use Rattle.protocol.proofs.RegistrarPromises.{done-refused}
-use Rattle.protocol.proofs.ConfirmationMoves.{sixteen, present-part, message-at, fields-at, present-test, part-present}
+use Rattle.protocol.proofs.HeadRows.{passes-head}
+use Rattle.protocol.proofs.ConfirmationMoves.{sixteen, present-part, message-at, fields-at}
 use Rattle.protocol.proofs.Slots.{put-only}
 use Rattle.protocol.proofs.FreeSlots.{room-free, free-room, put-there, was-free, lowest-free}
 
@@ -150,21 +151,8 @@ module _ (t : TransactionTable) (d : RegistrarInput) (bytes : List ℕ) (m : Mes
     request-off (yes e) = off-left (hasEntries f && oneEntry f) (not (eqb (f .request) 0)) (off-left (hasEntries f) (oneEntry f) (p10cr-off (m .body .kind) e))
     request-off (no z) = off-right (hasEntries f && oneEntry f) (not (eqb (f .request) 0)) (holds-not (eqb (f .request) 0) (same-number (f .request) 0 (c .request z)))
 
-    version-off : otherVersion f ≡ false
-    unfolding fieldsOf
-    version-off = holds-not (eqb (f .version) 2 || eqb (f .version) 3) (either (f .version) 2 3 (c .version))
-
-    id-off : noTransactionId f ≡ false
-    unfolding fieldsOf
-    id-off = present-test bytes (m .header .«transaction_id») (c .id .bytes) (c .hasId)
-
-    nonce-off : noSenderNonce f ≡ false
-    unfolding fieldsOf
-    nonce-off = present-test bytes (m .header .«sender_nonce») (c .nonce .bytes) (c .senderNonce)
-
-    protection-off : unprotected f ≡ false
-    unfolding fieldsOf
-    protection-off = holds-not (f .protected) (both (isPresent (m .protection)) (isPresent (m .header .«protection_alg»)) (part-present (m .protection) (c .protection)) (part-present (m .header .«protection_alg») (c .algorithm)))
+    good-it : isGood (d .verdict) ≡ true
+    good-it = rw (c .good)
 
     recip-off : opensWithNonce f ≡ false
     unfolding fieldsOf
@@ -177,10 +165,10 @@ module _ (t : TransactionTable) (d : RegistrarInput) (bytes : List ℕ) (m : Mes
     unfolding registrarRows
     passes-all =
         check-is
-        (skip version-off (skip id-off (skip nonce-off (skip protection-off (skip (rw (c .good)) (skip (holds-not (opens f || confirms f) (ap (λ (z : Bool). z || confirms f) request-it)) (skip recip-off
+        (passes-head bytes m (c .version) (c .hasId) (c .senderNonce) (c .protection) (c .algorithm) good-it (skip (holds-not (opens f || confirms f) (ap (λ (z : Bool). z || confirms f) request-it)) (skip recip-off
         (skip (off-right (opens f) false refl) (skip (off-right (opens f) (not (hasFreeSlot rs)) (holds-not (hasFreeSlot rs) room-it))
         (skip (off-left (confirms f) true no-conf) (skip (off-left (confirms f) _ no-conf) (skip (off-left (confirms f) _ no-conf) (skip (entries-off (ℕ-discrete (m .body .kind) 4)) (skip (request-off (ℕ-discrete (m .body .kind) 4))
-        (skip (conf-off (oneEntry f) (f .hashAlg) _) (skip (off-left (confirms f && oneEntry f) _ (off-left (confirms f) (oneEntry f) no-conf)) (skip (off-left (confirms f && oneEntry f) _ (off-left (confirms f) (oneEntry f) no-conf)) (skip (off-left (confirms f) _ no-conf) through))))))))))))))))))
+        (skip (conf-off (oneEntry f) (f .hashAlg) _) (skip (off-left (confirms f && oneEntry f) _ (off-left (confirms f) (oneEntry f) no-conf)) (skip (off-left (confirms f && oneEntry f) _ (off-left (confirms f) (oneEntry f) no-conf)) (skip (off-left (confirms f) _ no-conf) through))))))))))))))
 
     id-is : asId (f .id) ≡ c .id
     unfolding fieldsOf

@@ -1,9 +1,7 @@
 -- Each arm's number has its bit in the table; any other number has none.
-use mathlib.Core.Bool.{Bool, true, false, cond}
 use mathlib.Core.Path.{_≡_, refl, sym, ap, _∙_}
 use Prim.Native.Nat.{ℕ}
 use mathlib.Core.List.{List, [], _∷_, _++_}
-use lib.ListN.{take, drop}
 use borrow.Author.Needs.{needs}
 use borrow.Author.Tests.{ne-eqb}
 use Rattle.protocol.specs.Refusals.{NumberBit, bits, bitIn, bitOf}
@@ -24,18 +22,6 @@ skips P n [] cs o = refl
 skips P n (b ∷ bs) cs o =
     let not-it : P × (n ≡ b .number → ⊥) = beside (P × (n ≡ b .number → ⊥)) n bs o in
     rw (ne-eqb n (b .number) (not-it .1)) (skips (P × (n ≡ b .number → ⊥)) n bs cs o)
-
-cond-same : {A : Type 0} (t : Bool) (x : A) → cond t x x ≡ x
-cond-same true x = refl
-cond-same false x = refl
-
--- the table's last four numbers have no bit, like those that it does not name
-returns-rest : tie.Need-returns-21
-unfolding bitOf
-returns-rest c =
-    let args = c .before .args in
-    let table = bits (args .confirmed) in
-    sym (skips Unit (args .number) (take 20 table) (drop 20 table) (c .match .rest) ∙ rw (cond-same, cond-same, cond-same, cond-same))
 
 pub bit-of-spec : {M : Type 1} → statement M
 unfolding bitOf
@@ -61,4 +47,8 @@ bit-of-spec = tie.close (tie.spec
     (λ c. ap (λ (n : ℕ). bitOf n (c .before .args .confirmed)) (sym (c .match .keys18)))
     (λ c. ap (λ (n : ℕ). bitOf n (c .before .args .confirmed)) (sym (c .match .keys19)))
     (λ c. c .bit-of-20 .ensures ∙ ap (λ (n : ℕ). bitOf n (c .before .before .args .confirmed)) (sym (c .before .match .keys20)))
-    returns-rest)
+    (λ c. ap (λ (n : ℕ). bitOf n (c .before .args .confirmed)) (sym (c .match .keys21)))
+    (λ c. ap (λ (n : ℕ). bitOf n (c .before .args .confirmed)) (sym (c .match .keys22)))
+    (λ c. ap (λ (n : ℕ). bitOf n (c .before .args .confirmed)) (sym (c .match .keys23)))
+    (λ c. ap (λ (n : ℕ). bitOf n (c .before .args .confirmed)) (sym (c .match .keys24)))
+    (λ c. sym (skips Unit (c .before .args .number) (bits (c .before .args .confirmed)) [] (c .match .rest))))
