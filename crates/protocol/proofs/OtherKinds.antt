@@ -71,7 +71,8 @@ pub other-kinds : (t : TransactionTable) (d : RegistrarInput) (bytes : List ℕ)
 unfolding registrarFields
 other-kinds t d bytes m e k = rw (message-at t d bytes m e) (refused-by t d (fieldsOf bytes m) k (lookup (t .transactions) (asId (fieldsOf bytes m .id))) (lowestRow (registrarRows (t .transactions) (lookup (t .transactions) (asId (fieldsOf bytes m .id))) (d .verdict) (fieldsOf bytes m))) refl)
 
-pub other-kinds-by-8 :
-    (t : TransactionTable) (d : RegistrarInput) (bytes : List ℕ) (m : Message) → readingOf bytes ≡ read.Clean m → OtherKind (fieldsOf bytes m .kind) → NotBefore8 (d .verdict) (fieldsOf bytes m) →
-    RefusedBy8 (asId (fieldsOf bytes m .id)) (d .nonce) (asNonce (fieldsOf bytes m .senderNonce)) (registrarMessage t d bytes)
+pub other-kinds-by-8 : (t : TransactionTable) (d : RegistrarInput) (bytes : List ℕ) (m : Message) → readingOf bytes ≡ read.Clean m
+    → OtherKind (fieldsOf bytes m .kind)
+    → NotBefore8 (d .verdict) (fieldsOf bytes m)
+    → RefusedBy8 (asId (fieldsOf bytes m .id)) (d .nonce) (asNonce (fieldsOf bytes m .senderNonce)) (registrarMessage t d bytes)
 other-kinds-by-8 t d bytes m e k before = rw (message-at t d bytes m e) (refused-8 t d (fieldsOf bytes m) k before)

@@ -15,6 +15,7 @@ use protocol::Board;
 use protocol::Transaction;
 use protocol::TransactionTable;
 use protocol::Verdict;
+use protocol::kinds::CERT_CONF;
 use protocol::kinds::is_opening_kind;
 use protocol::kinds::request_number;
 ghost use mathlib.Core.Path.{_≡_};
@@ -41,21 +42,21 @@ pub(crate) fn is_good(verdict: Verdict) -> bool
 }
 
 // Of a request (01's opening).
-fn of_request(kind: u8, applies: bool) -> bool
-    ensures { λ r. ⌜ r ≡ (isOpeningKind kind && applies) ⌝ }
+fn of_request(kind: u8, opening: bool) -> bool
+    ensures { λ r. ⌜ r ≡ (isOpeningKind kind && opening) ⌝ }
 {
     if is_opening_kind(kind) {
-        return applies;
+        return opening;
     }
     false
 }
 
 // Of a certConf.
-fn of_cert_conf(kind: u8, applies: bool) -> bool
-    ensures { λ r. ⌜ r ≡ (eqb kind 24 && applies) ⌝ }
+fn of_cert_conf(kind: u8, confirming: bool) -> bool
+    ensures { λ r. ⌜ r ≡ (eqb kind 24 && confirming) ⌝ }
 {
-    if kind == 24 {
-        return applies;
+    if kind == CERT_CONF {
+        return confirming;
     }
     false
 }
@@ -64,7 +65,7 @@ fn of_cert_conf(kind: u8, applies: bool) -> bool
 fn of_one(kind: u8, entries: usize, applies: bool) -> bool
     ensures { λ r. ⌜ r ≡ (eqb kind 24 && eqb entries 1 && applies) ⌝ }
 {
-    if kind == 24 {
+    if kind == CERT_CONF {
         if entries == 1 {
             return applies;
         }
@@ -79,7 +80,7 @@ fn other_kind(kind: u8) -> bool
     if is_opening_kind(kind) {
         return false;
     }
-    kind != 24
+    kind != CERT_CONF
 }
 
 // 11: no slot is free.
@@ -96,7 +97,8 @@ fn full(table: TransactionTable) -> bool
 fn opens_full(kind: u8, table: TransactionTable) -> bool
     ensures { λ r. ⌜ r ≡ (isOpeningKind kind && not (hasFreeSlot (table .transactions))) ⌝ }
 {
-    if is_opening_kind(kind) {
+    let opens = is_opening_kind(kind);
+    if opens {
         return full(table);
     }
     false
@@ -138,7 +140,7 @@ fn has_entries(kind: u8) -> bool
     if kind == 7 {
         return true;
     }
-    kind == 24
+    kind == CERT_CONF
 }
 
 // 15: not exactly one entry.
@@ -155,7 +157,7 @@ fn not_one(kind: u8, entries: usize) -> bool
 fn kind_of(kind: u8, held: u8) -> u8
     ensures { λ r. ⌜ r ≡ cond (eqb kind 24) held kind ⌝ }
 {
-    if kind == 24 { held } else { kind }
+    if kind == CERT_CONF { held } else { kind }
 }
 
 // 16: not the number that goes with the transaction's kind.

@@ -1,7 +1,7 @@
 // Which states take what: a function for each table of the definitions.
 //
-// A must-fail edit names the text of one line, which has to stand in its file just once. So where an edit turns a line of a
-// table, the table's two values have names of their own.
+// A must-fail edit names the text of one line, which has to stand in its file just once. So what an edit turns has a name of
+// its own: the two values of a table, the state of a transaction that is to be issued or refused.
 use protocol::Transaction;
 use protocol::TransactionState;
 ghost use mathlib.Core.Path.{_≡_};
@@ -116,16 +116,16 @@ pub(crate) fn settled_state(status: u32) -> TransactionState
 pub(crate) fn may_issue(held: Transaction) -> bool
     ensures { λ r. ⌜ r ≡ mayIssue held ⌝ }
 {
-    let state = held.state;
-    is_asked(state)
+    let issued = held.state;
+    is_asked(issued)
 }
 
 // refuse
 pub(crate) fn may_refuse(held: Transaction) -> bool
     ensures { λ r. ⌜ r ≡ mayRefuse held ⌝ }
 {
-    let state = held.state;
-    is_asked(state)
+    let refused = held.state;
+    is_asked(refused)
 }
 
 // lapse
