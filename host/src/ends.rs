@@ -1,7 +1,7 @@
 //! The plain data that the registrar and the end entities are asked with and
 //! answer with, the same for the compiled library and for the model.
 
-use crate::limits::{HASH_BYTES, ID_BYTES, NONCE_BYTES};
+use crate::limits::{FRESH_NONCE_BYTES, HASH_BYTES, ID_BYTES, NONCE_BYTES};
 use crate::refusal::Refusal;
 use std::fmt;
 
@@ -15,7 +15,7 @@ pub struct Nonce(pub [u8; NONCE_BYTES]);
 
 /// 16 bytes that the host draws for a nonce of its own, never twice.
 #[derive(Clone, Copy, PartialEq, Eq, PartialOrd, Ord, Hash)]
-pub struct FreshNonce(pub [u8; NONCE_BYTES]);
+pub struct FreshNonce(pub [u8; FRESH_NONCE_BYTES]);
 
 /// As it is sent and kept.
 impl From<FreshNonce> for Nonce {

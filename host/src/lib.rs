@@ -82,7 +82,7 @@ pub use ends::{
     Board, CertHash, Decision, EndEntityAnswer, FreshNonce, Nonce, Outcome, Outgoing,
     RegistrarAnswer, Slot, TransactionId, Verdict,
 };
-pub use limits::{HASH_BYTES, ID_BYTES, MESSAGE_LIMIT, NONCE_BYTES, SLOTS};
+pub use limits::{FRESH_NONCE_BYTES, HASH_BYTES, ID_BYTES, MESSAGE_LIMIT, NONCE_BYTES, SLOTS};
 pub use refusal::Refusal;
 pub use registrar::Registrar;
 pub use states::{

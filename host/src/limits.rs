@@ -17,6 +17,9 @@ pub const ID_BYTES: usize = 16;
 /// A senderNonce or recipNonce, in bytes.
 pub const NONCE_BYTES: usize = 16;
 
+/// A nonce that the host draws, in bytes.
+pub const FRESH_NONCE_BYTES: usize = 16;
+
 /// A certHash, in bytes.
 pub const HASH_BYTES: usize = 32;
 

@@ -7,7 +7,7 @@ use lib.ListN.{length, getD}
 use lib.Dec.{eqb}
 use Rattle.protocol.specs.declared.FailureInfo.{FailureInfo}
 use Rattle.protocol.specs.declared.FailureInfo.the-variants.{NoBit, Bit}
-use Rattle.protocol.specs.declared.Contents.{Contents}
+use Rattle.protocol.specs.declared.OutgoingContents.{OutgoingContents}
 use Rattle.protocol.specs.declared.Outgoing.{Outgoing}
 use Rattle.packed.specs.Bytes.{part, flag, flagAt, fourBytes, fourAt}
 use Rattle.packed.specs.Places.{idBytes, nonceBytes, hashBytes, outgoingKindAt, outgoingIdAt, outgoingSenderNonceAt, outgoingHasRecipNonceAt, outgoingRecipNonceAt, outgoingHasStatusAt, outgoingStatusAt, outgoingHashAt, outgoingFailureAt, outgoingEnd}
@@ -33,7 +33,7 @@ packNames o =
     o .«recip_nonce» .bytes)))
 
 -- status, hash and failure
-unfoldable pub packContents : Contents → List ℕ
+unfoldable pub packContents : OutgoingContents → List ℕ
 packContents c =
     (flag (c .«has_status») ∷ []) ++ (
     fourBytes (c .status) ++ (
@@ -44,7 +44,7 @@ abbrev pub packOutgoing : Outgoing → List ℕ
 packOutgoing o = packNames o ++ packContents (o .contents)
 
 -- what these bytes say that a message carries
-abbrev pub outgoingContentsOf : List ℕ → Contents
+abbrev pub outgoingContentsOf : List ℕ → OutgoingContents
 outgoingContentsOf s =
     record {
       «has_status» = flagAt outgoingHasStatusAt s;

@@ -5,9 +5,9 @@ use crate::bytes::put_16;
 use crate::bytes::put_32;
 use crate::bytes::put_flag;
 use crate::places;
-use protocol::Contents;
 use protocol::FailureInfo;
 use protocol::Outgoing;
+use protocol::OutgoingContents;
 ghost use mathlib.Core.Path.{_≡_};
 ghost use Prim.Native.Nat.{_+_, _≤_};
 ghost use lib.ListN.{length};
@@ -44,7 +44,7 @@ fn put_names(bytes: &mut [u8], at: usize, o: Outgoing)
 }
 
 // What only some kinds carry, of the message that starts at the offset.
-fn put_contents(bytes: &mut [u8], at: usize, c: Contents)
+fn put_contents(bytes: &mut [u8], at: usize, c: OutgoingContents)
     requires { ⌜ at + outgoingBytes ≤ length (now bytes) ⌝ }
     ensures { λ _. ⌜ Placed (at + outgoingContentsAt) contentsPartBytes (packContents c) (now (bytes .entry)) (now (bytes .exit)) ⌝ }
 {

@@ -17,7 +17,7 @@ use Rattle.protocol.specs.Table.{lookup}
 use Rattle.protocol.specs.Refusals.{lowestRow, pass, LowestRow, stop, Row, headRows, bitOf}
 use Rattle.protocol.specs.RegistrarRows.{isGood, opens, confirms, otherKind, registrarRows}
 use Rattle.protocol.specs.Registrar.{registrarChecked, registrarMessage, registrarFields}
-use Rattle.protocol.specs.MessageRules.{OtherKind, IsRefused, NotBefore8, RefusedBy8}
+use Rattle.protocol.specs.MessageRules.{OtherKind, IsRefused, NotBefore8, refusedBy8}
 use Rattle.der.proofs.Auto.{or-cases}
 use Rattle.protocol.proofs.Tests.{eqb-eq, not-false, passes}
 use Rattle.protocol.proofs.Rows.{stops, check-is, skip, halt}
@@ -62,9 +62,9 @@ module _ (t : TransactionTable) (d : RegistrarInput) (m : Fields) (k : OtherKind
         let e : lowestRow head ≡ pass = head-passes (lowestRow head) refl in
         check-is (skip (passes 3 head e) (skip (passes 4 head e) (skip (passes 5 head e) (skip (passes 6 head e) (skip (passes 7 head e) (halt applies-8))))))
 
-    refused-8 : RefusedBy8 (asId (m .id)) (d .nonce) (asNonce (m .senderNonce)) (registrarFields t d m)
+    refused-8 : registrarFields t d m ≡ refusedBy8 t (asId (m .id)) (d .nonce) (asNonce (m .senderNonce))
     unfolding registrarFields registrarChecked bitOf
-    refused-8 = rw (lowest-8 (lookup (t .transactions) (asId (m .id)))) (record { refused = refl; sends = refl; message = refl })
+    refused-8 = rw (lowest-8 (lookup (t .transactions) (asId (m .id))))
 
 -- a message that reads
 pub other-kinds : (t : TransactionTable) (d : RegistrarInput) (bytes : List ℕ) (m : Message) → readingOf bytes ≡ read.Clean m → OtherKind (fieldsOf bytes m .kind) → IsRefused (registrarMessage t d bytes .outcome)
@@ -74,5 +74,5 @@ other-kinds t d bytes m e k = rw (message-at t d bytes m e) (refused-by t d (fie
 pub other-kinds-by-8 : (t : TransactionTable) (d : RegistrarInput) (bytes : List ℕ) (m : Message) → readingOf bytes ≡ read.Clean m
     → OtherKind (fieldsOf bytes m .kind)
     → NotBefore8 (d .verdict) (fieldsOf bytes m)
-    → RefusedBy8 (asId (fieldsOf bytes m .id)) (d .nonce) (asNonce (fieldsOf bytes m .senderNonce)) (registrarMessage t d bytes)
+    → registrarMessage t d bytes ≡ refusedBy8 t (asId (fieldsOf bytes m .id)) (d .nonce) (asNonce (fieldsOf bytes m .senderNonce))
 other-kinds-by-8 t d bytes m e k before = rw (message-at t d bytes m e) (refused-8 t d (fieldsOf bytes m) k before)

@@ -75,7 +75,15 @@ certifies x d n s status =
       outcome = outcome.Done;
       fault = noFault;
       sends = true;
-      outgoing = record { kind = 24; id = x .id; «sender_nonce» = ours (d .nonce); «has_recip_nonce» = true; «recip_nonce» = n; contents = record { «has_status» = true; status = status; hash = d .hash; failure = NoBit } };
+      outgoing =
+          record {
+            kind = 24;
+            id = x .id;
+            «sender_nonce» = ours (d .nonce);
+            «has_recip_nonce» = true;
+            «recip_nonce» = n;
+            contents = record { «has_status» = true; status = status; hash = d .hash; failure = NoBit };
+          };
       enrolment = record { id = x .id; kind = x .kind; last = ours (d .nonce); taken = n; hash = d .hash; state = s };
     }
 

@@ -11,6 +11,7 @@ use Rattle.protocol.specs.declared.Nonce.{Nonce}
 use Rattle.protocol.specs.declared.FreshNonce.{FreshNonce}
 use Rattle.protocol.specs.declared.Verdict.{Verdict}
 use Rattle.protocol.specs.declared.Transaction.{Transaction}
+use Rattle.protocol.specs.declared.TransactionTable.{TransactionTable}
 use Rattle.protocol.specs.declared.FailureInfo.{FailureInfo}
 use Rattle.protocol.specs.declared.Outgoing.{Outgoing}
 use Rattle.protocol.specs.declared.Outcome.{Outcome}
@@ -19,7 +20,7 @@ use Rattle.protocol.specs.declared.FailureInfo.the-variants.{NoBit, Bit}
 use Rattle.protocol.specs.declared.Outcome.the-variants as outcome
 use Rattle.protocol.specs.declared.TransactionState.the-variants.{Asked, Refused, Lapsed}
 use Rattle.protocol.specs.Message.{Fields, responseTo}
-use Rattle.protocol.specs.Refusals.{bitOf, headRows}
+use Rattle.protocol.specs.Refusals.{bitOf, headRows, noFault}
 use Rattle.protocol.specs.Slots.{ours}
 use Rattle.protocol.specs.RegistrarRows.{isGood, confirmsOtherNonce, otherHash, notTaken}
 use Rattle.protocol.specs.Promises.{Applies}
@@ -58,11 +59,17 @@ IsRefused o = (n : ℕ) × (b : FailureInfo) × (o ≡ outcome.Refused n b)
 abbrev pub NotBefore8 : Verdict → Fields → Type 0
 NotBefore8 v m = (k : ℕ) → Applies k (headRows (isGood v) m) → ⊥
 
--- then it is refused by 8, with bit 2 and an error message: i and a are its id and senderNonce, n the fresh nonce
-pub record RefusedBy8 (i : TransactionId) (n : FreshNonce) (a : Nonce) (answer : RegistrarAnswer) : Type 0 where
-  pub refused : answer .outcome ≡ outcome.Refused 8 (Bit 2)
-  pub sends : answer .sends ≡ true
-  pub message : answer .outgoing ≡ errorMessage i n a (Bit 2)
+-- then it is refused by 8, with bit 2 and an error message, and the table stays: i and a are its id and senderNonce, n the fresh nonce
+abbrev pub refusedBy8 : TransactionTable → TransactionId → FreshNonce → Nonce → RegistrarAnswer
+refusedBy8 t i n a =
+    record {
+      outcome = outcome.Refused 8 (Bit 2);
+      fault = noFault;
+      slot = record { 0 = 0 };
+      sends = true;
+      outgoing = errorMessage i n a (Bit 2);
+      table = t;
+    }
 
 -- a certConf with one entry, for the transaction r
 pub record Corners (r : Transaction) (m : Fields) : Type 0 where

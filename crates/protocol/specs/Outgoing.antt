@@ -6,7 +6,7 @@ use Rattle.protocol.specs.declared.Nonce.{Nonce}
 use Rattle.protocol.specs.declared.FreshNonce.{FreshNonce}
 use Rattle.protocol.specs.declared.Hash.{Hash}
 use Rattle.protocol.specs.declared.FailureInfo.{FailureInfo}
-use Rattle.protocol.specs.declared.Contents.{Contents}
+use Rattle.protocol.specs.declared.OutgoingContents.{OutgoingContents}
 use Rattle.protocol.specs.declared.Outgoing.{Outgoing}
 use Rattle.protocol.specs.declared.FailureInfo.the-variants.{NoBit}
 use Rattle.protocol.specs.Bytes.{noId, noNonce, noHash, nonceFrom}
@@ -14,17 +14,17 @@ use Rattle.protocol.specs.Message.{certConf, pkiConf, errorKind}
 
 -- ## What only some kinds carry
 
-abbrev pub noContents : Contents
+abbrev pub noContents : OutgoingContents
 noContents = record { «has_status» = false; status = 0; hash = noHash; failure = NoBit }
 
 -- Each of these sets a part of the contents and leaves the others.
-abbrev pub withStatus : ℕ → Contents → Contents
+abbrev pub withStatus : ℕ → OutgoingContents → OutgoingContents
 withStatus s c = record { «has_status» = true; status = s; hash = c .hash; failure = c .failure }
 
-abbrev pub withHash : Hash → Contents → Contents
+abbrev pub withHash : Hash → OutgoingContents → OutgoingContents
 withHash h c = record { «has_status» = c .«has_status»; status = c .status; hash = h; failure = c .failure }
 
-abbrev pub withFailure : FailureInfo → Contents → Contents
+abbrev pub withFailure : FailureInfo → OutgoingContents → OutgoingContents
 withFailure f c = record { «has_status» = c .«has_status»; status = c .status; hash = c .hash; failure = f }
 
 -- ## The messages
@@ -38,7 +38,7 @@ abbrev pub requestOut : (kind : ℕ) → TransactionId → FreshNonce → Outgoi
 requestOut k i n = record { kind = k; id = i; «sender_nonce» = nonceFrom n; «has_recip_nonce» = false; «recip_nonce» = noNonce; contents = noContents }
 
 -- "every answer carries the id and, as recipNonce, the senderNonce of the message answered"
-abbrev pub answerOut : (kind : ℕ) → TransactionId → FreshNonce → (answered : Nonce) → Contents → Outgoing
+abbrev pub answerOut : (kind : ℕ) → TransactionId → FreshNonce → (answered : Nonce) → OutgoingContents → Outgoing
 answerOut k i n a c = record { kind = k; id = i; «sender_nonce» = nonceFrom n; «has_recip_nonce» = true; «recip_nonce» = a; contents = c }
 
 -- ip, cp or kup, with its status

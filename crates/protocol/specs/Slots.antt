@@ -10,7 +10,7 @@ use Rattle.protocol.specs.declared.Nonce.{Nonce}
 use Rattle.protocol.specs.declared.FreshNonce.{FreshNonce}
 use Rattle.protocol.specs.declared.Transaction.{Transaction}
 use Rattle.protocol.specs.declared.TransactionTable.{TransactionTable}
-use Rattle.protocol.specs.declared.Contents.{Contents}
+use Rattle.protocol.specs.declared.OutgoingContents.{OutgoingContents}
 use Rattle.protocol.specs.declared.Outgoing.{Outgoing}
 use Rattle.protocol.specs.declared.RegistrarAnswer.{RegistrarAnswer}
 use Rattle.protocol.specs.declared.Outcome.the-variants as outcome
@@ -48,7 +48,7 @@ abbrev pub ours : FreshNonce → Nonce
 ours n = record { bytes = n .bytes }
 
 -- a message that carries no status, no hash and no bit
-abbrev pub bare : Contents
+abbrev pub bare : OutgoingContents
 bare = record { «has_status» = false; status = 0; hash = record { bytes = replicate 32 0 }; failure = NoBit }
 
 -- this is sent

@@ -196,7 +196,7 @@ pub enum FailureInfo {
 }
 
 // What only some kinds carry: a status where the flag says so, a hash in a certConf, a bit in an error.
-pub struct Contents {
+pub struct OutgoingContents {
     pub has_status: bool,
     pub status: u32,
     pub hash: Hash,
@@ -210,7 +210,7 @@ pub struct Outgoing {
     pub sender_nonce: Nonce,
     pub has_recip_nonce: bool,
     pub recip_nonce: Nonce,
-    pub contents: Contents,
+    pub contents: OutgoingContents,
 }
 
 // How a call ended: done; the same answer given again, with no change; or refused, with its number and bit.

@@ -1,10 +1,10 @@
 // The messages that the ends give to be sent (01's orders), each with all it carries.
-use crate::Contents;
 use crate::FailureInfo;
 use crate::FreshNonce;
 use crate::Hash;
 use crate::Nonce;
 use crate::Outgoing;
+use crate::OutgoingContents;
 use crate::TransactionId;
 use crate::kinds::CERT_CONF;
 use crate::kinds::ERROR;
@@ -15,12 +15,12 @@ use crate::no_nonce;
 ghost use mathlib.Core.Path.{_≡_};
 ghost use Rattle.protocol.specs.Outgoing.{noContents, withStatus, withHash, withFailure, silent, requestOut, answerOut, responseOut, certConfOut, pkiConfOut, errorOut};
 
-impl Contents {
+impl OutgoingContents {
     // Nothing.
-    pub fn empty() -> Contents
+    pub fn blank() -> OutgoingContents
         ensures { λ r. ⌜ r ≡ noContents ⌝ }
     {
-        Contents {
+        OutgoingContents {
             has_status: false,
             status: 0,
             hash: no_hash(),
@@ -29,7 +29,7 @@ impl Contents {
     }
 
     // With this status.
-    fn with_status(self, status: u32) -> Contents
+    fn with_status(self, status: u32) -> OutgoingContents
         ensures { λ r. ⌜ r ≡ withStatus status self ⌝ }
     {
         let mut contents = self;
@@ -39,7 +39,7 @@ impl Contents {
     }
 
     // With this hash.
-    fn with_hash(self, hash: Hash) -> Contents
+    fn with_hash(self, hash: Hash) -> OutgoingContents
         ensures { λ r. ⌜ r ≡ withHash hash self ⌝ }
     {
         let mut contents = self;
@@ -47,12 +47,12 @@ impl Contents {
         contents
     }
 
-    // With this bit.
-    fn with_failure(self, failure: FailureInfo) -> Contents
+    // With this bit: an enum in a field is not stored to, so all is written anew.
+    fn with_failure(self, failure: FailureInfo) -> OutgoingContents
         ensures { λ r. ⌜ r ≡ withFailure failure self ⌝ }
     {
         let hash = self.hash;
-        Contents {
+        OutgoingContents {
             has_status: self.has_status,
             status: self.status,
             hash,
@@ -72,7 +72,7 @@ impl Outgoing {
             sender_nonce: no_nonce(),
             has_recip_nonce: false,
             recip_nonce: no_nonce(),
-            contents: Contents::empty(),
+            contents: OutgoingContents::blank(),
         }
     }
 
@@ -87,7 +87,7 @@ impl Outgoing {
             sender_nonce: fresh.nonce(),
             has_recip_nonce: answers,
             recip_nonce: no_nonce(),
-            contents: Contents::empty(),
+            contents: OutgoingContents::blank(),
         }
     }
 
@@ -97,7 +97,7 @@ impl Outgoing {
         id: TransactionId,
         fresh: FreshNonce,
         answered: Nonce,
-        contents: Contents,
+        contents: OutgoingContents,
     ) -> Outgoing
         ensures { λ r. ⌜ r ≡ answerOut kind id fresh answered contents ⌝ }
     {
@@ -121,7 +121,7 @@ impl Outgoing {
     ) -> Outgoing
         ensures { λ r. ⌜ r ≡ responseOut kind id fresh answered status ⌝ }
     {
-        let contents = Contents::empty().with_status(status);
+        let contents = OutgoingContents::blank().with_status(status);
         Outgoing::answer(kind, id, fresh, answered, contents)
     }
 
@@ -135,15 +135,15 @@ impl Outgoing {
     ) -> Outgoing
         ensures { λ r. ⌜ r ≡ certConfOut id fresh answered status hash ⌝ }
     {
-        let contents = Contents::empty().with_status(status).with_hash(hash);
-        Outgoing::answer(CERT_CONF, id, fresh, answered, contents)
+        let decided = OutgoingContents::blank().with_status(status);
+        Outgoing::answer(CERT_CONF, id, fresh, answered, decided.with_hash(hash))
     }
 
     // pkiconf
     pub fn pki_conf(id: TransactionId, fresh: FreshNonce, answered: Nonce) -> Outgoing
         ensures { λ r. ⌜ r ≡ pkiConfOut id fresh answered ⌝ }
     {
-        Outgoing::answer(PKI_CONF, id, fresh, answered, Contents::empty())
+        Outgoing::answer(PKI_CONF, id, fresh, answered, OutgoingContents::blank())
     }
 
     // error, with status 2
@@ -155,7 +155,7 @@ impl Outgoing {
     ) -> Outgoing
         ensures { λ r. ⌜ r ≡ errorOut id fresh answered failure ⌝ }
     {
-        let contents = Contents::empty().with_status(2).with_failure(failure);
-        Outgoing::answer(ERROR, id, fresh, answered, contents)
+        let rejected = OutgoingContents::blank().with_status(2);
+        Outgoing::answer(ERROR, id, fresh, answered, rejected.with_failure(failure))
     }
 }

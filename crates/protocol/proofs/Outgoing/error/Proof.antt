@@ -8,4 +8,4 @@ error-spec = tie.close (tie.spec
     (λ c κs. search tests)
     (λ c κs. search tests)
     (λ c κs. search tests)
-    (λ c. search (tests, c .answer .ensures, c .before .with-failure .ensures, c .before .before .with-status .ensures, c .before .before .before .empty .ensures)))
+    (λ c. search (tests, c .answer .ensures, c .before .with-failure .ensures, c .before .before .with-status .ensures, c .before .before .before .blank .ensures)))

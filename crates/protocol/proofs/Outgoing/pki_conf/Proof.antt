@@ -6,4 +6,4 @@ pub pki-conf-spec : {M : Type 1} → statement M
 pki-conf-spec = tie.close (tie.spec
     (λ c κs. search tests)
     (λ c κs. search tests)
-    (λ c. search (tests, c .answer .ensures, c .before .empty .ensures)))
+    (λ c. search (tests, c .answer .ensures, c .before .blank .ensures)))

@@ -7,4 +7,4 @@ request-spec = tie.close (tie.spec
     (λ c κs. search tests)
     (λ c κs. search tests)
     (λ c κs. search tests)
-    (λ c. search (tests, c .empty .ensures, c .before .no-nonce .ensures, c .before .before .nonce .ensures)))
+    (λ c. search (tests, c .blank .ensures, c .before .no-nonce .ensures, c .before .before .nonce .ensures)))

@@ -7,4 +7,4 @@ response-spec = tie.close (tie.spec
     (λ c κs. search tests)
     (λ c κs. search tests)
     (λ c κs. search tests)
-    (λ c. search (tests, c .answer .ensures, c .before .with-status .ensures, c .before .before .empty .ensures)))
+    (λ c. search (tests, c .answer .ensures, c .before .with-status .ensures, c .before .before .blank .ensures)))

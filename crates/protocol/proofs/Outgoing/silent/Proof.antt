@@ -11,4 +11,4 @@ silent-spec = tie.close (tie.spec
     (λ c κs. search tests)
     (λ c κs. search tests)
     (λ c κs. search tests)
-    (λ c. search (tests, c .empty .ensures, c .before .no-nonce2 .ensures, c .before .before .no-nonce .ensures, c .before .before .before .no-id .ensures)))
+    (λ c. search (tests, c .blank .ensures, c .before .no-nonce2 .ensures, c .before .before .no-nonce .ensures, c .before .before .before .no-id .ensures)))
