@@ -13,7 +13,6 @@ use protocol::FreshNonce;
 use protocol::Hash;
 use protocol::Nonce;
 use protocol::Outcome;
-use protocol::Outgoing;
 use protocol::TransactionId;
 use protocol::no_hash;
 use protocol::no_nonce;
@@ -39,7 +38,7 @@ pub(crate) fn refused(number: u8, enrolment: Enrolment) -> EndEntityAnswer
         outcome: Outcome::Refused(number, bit_of(number, false)),
         fault: no_fault(),
         sends: false,
-        outgoing: Outgoing::silent(),
+        outgoing: outgoing::silent(),
         enrolment,
     }
 }
@@ -54,7 +53,7 @@ pub(crate) fn unread(enrolment: Enrolment, fault: ReadFault) -> EndEntityAnswer
         outcome: Outcome::Refused(number, bit),
         fault,
         sends: false,
-        outgoing: Outgoing::silent(),
+        outgoing: outgoing::silent(),
         enrolment,
     }
 }
@@ -71,7 +70,7 @@ pub(crate) fn moved(enrolment: Enrolment, state: EnrolmentState) -> EndEntityAns
         outcome: Outcome::Done,
         fault: no_fault(),
         sends: false,
-        outgoing: Outgoing::silent(),
+        outgoing: outgoing::silent(),
         enrolment: Enrolment {
             id,
             kind: enrolment.kind,
@@ -134,7 +133,7 @@ pub(crate) fn confirm(
         outcome: Outcome::Done,
         fault: no_fault(),
         sends: true,
-        outgoing: Outgoing::cert_conf(id, nonce, answered, decision_status(accept), hash),
+        outgoing: outgoing::cert_conf(id, nonce, answered, decision_status(accept), hash),
         enrolment: confirmed(enrolment, accept, hash, nonce, answered),
     }
 }

@@ -27,7 +27,6 @@ use protocol::EnrolmentState;
 use protocol::FreshNonce;
 use protocol::Nonce;
 use protocol::Outcome;
-use protocol::Outgoing;
 use protocol::TransactionId;
 use protocol::kinds::ERROR;
 use protocol::kinds::PKI_CONF;
@@ -48,7 +47,7 @@ pub fn start(kind: u8, id: TransactionId, nonce: FreshNonce) -> EndEntityAnswer
             outcome: Outcome::Done,
             fault: no_fault(),
             sends: true,
-            outgoing: Outgoing::request(kind, id, nonce),
+            outgoing: outgoing::request(kind, id, nonce),
             enrolment: started(kind, id, nonce),
         };
     }

@@ -6,7 +6,6 @@ ghost use Rattle.protocol.specs.Table.{freeTransaction, emptyTable};
 ghost use Rattle.protocol.specs.EndEntity.{noEnrolment};
 
 pub mod kinds;
-mod messages;
 
 // A board's number.
 pub struct Board(pub u16);

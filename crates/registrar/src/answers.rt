@@ -35,7 +35,7 @@ pub(crate) fn refused_quietly(number: u8, table: TransactionTable) -> RegistrarA
         fault: no_fault(),
         slot: Slot(0),
         sends: false,
-        outgoing: Outgoing::silent(),
+        outgoing: outgoing::silent(),
         table,
     }
 }
@@ -50,7 +50,7 @@ pub(crate) fn refused_reading(fault: ReadFault, table: TransactionTable) -> Regi
         fault,
         slot: Slot(0),
         sends: false,
-        outgoing: Outgoing::silent(),
+        outgoing: outgoing::silent(),
         table,
     }
 }
@@ -73,7 +73,7 @@ pub(crate) fn refused_message(
             fault: no_fault(),
             slot: Slot(0),
             sends: true,
-            outgoing: Outgoing::error(id, fresh, answered, bit),
+            outgoing: outgoing::error(id, fresh, answered, bit),
             table,
         };
     }
@@ -82,7 +82,7 @@ pub(crate) fn refused_message(
         fault: no_fault(),
         slot: Slot(0),
         sends: false,
-        outgoing: Outgoing::silent(),
+        outgoing: outgoing::silent(),
         table,
     }
 }
@@ -96,7 +96,7 @@ pub(crate) fn done_quietly(slot: Slot, table: TransactionTable) -> RegistrarAnsw
         fault: no_fault(),
         slot,
         sends: false,
-        outgoing: Outgoing::silent(),
+        outgoing: outgoing::silent(),
         table,
     }
 }

@@ -12,7 +12,6 @@ use crate::states::may_refuse;
 use protocol::FreshNonce;
 use protocol::Hash;
 use protocol::Nonce;
-use protocol::Outgoing;
 use protocol::RegistrarAnswer;
 use protocol::Slot;
 use protocol::Transaction;
@@ -79,7 +78,7 @@ fn respond(
     done_sending(
         slot,
         next,
-        Outgoing::response(response_to(held.kind), id, nonce, held.taken, status),
+        outgoing::response(response_to(held.kind), id, nonce, held.taken, status),
     )
 }
 

@@ -26,7 +26,6 @@ use parts::nonce_of;
 use protocol::Board;
 use protocol::FreshNonce;
 use protocol::Nonce;
-use protocol::Outgoing;
 use protocol::RegistrarAnswer;
 use protocol::RegistrarInput;
 use protocol::Slot;
@@ -97,7 +96,7 @@ fn confirm(
 ) -> RegistrarAnswer
     ensures { λ r. ⌜ r ≡ confirmation table (slot .0) held fresh id answered status ⌝ }
 {
-    let outgoing = Outgoing::pki_conf(id, fresh, answered);
+    let outgoing = outgoing::pki_conf(id, fresh, answered);
     let state = held.state;
     if is_granted(state) {
         let next = settled(held, settled_state(status), answered);

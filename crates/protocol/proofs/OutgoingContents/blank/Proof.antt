@@ -1,6 +1,0 @@
-use Rattle.der.proofs.Auto.{tests}
-use Rattle.protocol.proofs.OutgoingContents.blank.Statement.{statement}
-use Rattle.protocol.proofs.OutgoingContents.blank.Tie as tie
-
-pub blank-spec : {M : Type 1} → statement M
-blank-spec = tie.close (tie.spec (λ c κs. search tests) (λ c. search (tests, c .no-hash .ensures)))
