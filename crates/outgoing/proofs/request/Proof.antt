@@ -1,18 +1,10 @@
-use mathlib.Core.Bool.{false}
+use Rattle.der.proofs.Auto.{tests}
 use Rattle.outgoing.proofs.request.Statement.{statement}
 use Rattle.outgoing.proofs.request.Tie as tie
 
 pub request-spec : {M : Type 1} → statement M
 request-spec = tie.close (tie.spec
-    (λ c κs. tt)
-    (λ c κs. tt)
-    (λ c κs. tt)
-    (λ c.
-    λ i. record {
-      kind = c .before .before .before .args .request;
-      id = c .before .before .before .args .id;
-      «sender_nonce» = c .before .before .nonce .ensures i;
-      «has_recip_nonce» = false;
-      «recip_nonce» = c .before .no-nonce .ensures i;
-      contents = c .blank .ensures i;
-    }))
+    (λ c κs. search tests)
+    (λ c κs. search tests)
+    (λ c κs. search tests)
+    (λ c. search (tests, c .blank .ensures, c .before .no-nonce .ensures, c .before .before .nonce .ensures)))
