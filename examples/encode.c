@@ -52,7 +52,7 @@ static void empty(struct writer *w, int tag)
     end(w, begin(w, tag));
 }
 
-/* 0 to 127 */
+/* -128 to 127 */
 static void integer(struct writer *w, int value)
 {
     const uint8_t content = (uint8_t)value;
@@ -118,11 +118,18 @@ static void request(struct writer *w)
     end(w, start), end(w, message), end(w, messages);
 }
 
+/* certReqId of a response or a certConf: 0 or -1, by the enrolment's kind */
+static void cert_req_id(struct writer *w, const uint8_t *outgoing)
+{
+    assert(outgoing[DUSKSTALL_OUTGOING_HAS_CERT_REQ_ID]);
+    integer(w, (int32_t)duskstall_number(outgoing + DUSKSTALL_OUTGOING_CERT_REQ_ID, DUSKSTALL_CERT_REQ_ID_BYTES));
+}
+
 /* CertRepMessage with one response, which brings a certificate unless it is a rejection */
 static void response(struct writer *w, const uint8_t *outgoing)
 {
     size_t message = begin(w, SEQUENCE), responses = begin(w, SEQUENCE), start = begin(w, SEQUENCE);
-    integer(w, 0); /* certReqId */
+    cert_req_id(w, outgoing);
     status_info(w, outgoing);
     if (duskstall_number(outgoing + DUSKSTALL_OUTGOING_STATUS, 4) == 0) {
         uint8_t certificate[256];
@@ -139,7 +146,7 @@ static void confirmation(struct writer *w, const uint8_t *outgoing)
 {
     size_t content = begin(w, SEQUENCE), start = begin(w, SEQUENCE);
     element(w, OCTET_STRING, outgoing + DUSKSTALL_OUTGOING_HASH, DUSKSTALL_HASH_BYTES);
-    integer(w, 0); /* certReqId */
+    cert_req_id(w, outgoing);
     status_info(w, outgoing);
     end(w, start), end(w, content);
 }

@@ -1,7 +1,7 @@
 /*
- * Board 7 enrols at a registrar, with both ends in one program. Prints each message with the parts that the library
- * finds in it, each call's answer and the states after it, and shows two refusals and a repeated certConf on the way.
- * Ends with 1 if anything is not as expected.
+ * Board 7 enrols at a registrar, with both ends in one program: by ir and, when that is over, by p10cr. Prints each
+ * message with the parts that the library finds in it, each call's answer and the states after it, and shows three
+ * refusals and a repeated certConf on the way. Ends with 1 if anything is not as expected.
  */
 #include "enrol.h"
 
@@ -81,15 +81,15 @@ static void send_from(struct ends *e, const uint8_t *outgoing, int sender)
     e->len = outgoing != NULL ? encode(outgoing, sender, e->message) : 0;
 }
 
-/* ---- The enrolment ---- */
+/* ---- The steps of an enrolment ---- */
 
-static void request(struct ends *e)
+static void request(struct ends *e, uint8_t kind)
 {
     uint8_t id[DUSKSTALL_ID_BYTES], nonce[DUSKSTALL_NONCE_BYTES];
-    printf("Board %d starts an enrolment\n", BOARD);
+    printf("Board %d starts an enrolment by %s\n", BOARD, kind_name(kind));
     draw(id);
     draw(nonce);
-    uint64_t code = duskstall_end_entity_start(e->enrolment, sizeof e->enrolment, DUSKSTALL_IR, id, sizeof id, nonce,
+    uint64_t code = duskstall_end_entity_start(e->enrolment, sizeof e->enrolment, kind, id, sizeof id, nonce,
                                                sizeof nonce, e->answer, sizeof e->answer);
     show_end_entity_answer("end entity start", code, e->answer);
     expect(code == DUSKSTALL_DONE, "the start");
@@ -102,7 +102,7 @@ static void damaged_request(struct ends *e)
 {
     struct ends before = *e;
     uint64_t fields[DUSKSTALL_FIELDS];
-    printf("The line damages the ir: the header's length is one too low\n");
+    printf("The line damages the request: the header's length is one too low\n");
     duskstall_read(e->message, e->len, fields, DUSKSTALL_FIELDS);
     e->message[fields[DUSKSTALL_FIELD_HEADER] + 1]--;
     expect(registrar_gets(e) == DUSKSTALL_REFUSED, "a refusal");
@@ -115,7 +115,7 @@ static void damaged_request(struct ends *e)
 static void grant(struct ends *e)
 {
     uint8_t id[DUSKSTALL_ID_BYTES], nonce[DUSKSTALL_NONCE_BYTES], hash[DUSKSTALL_HASH_BYTES], certificate[256];
-    printf("The registrar gets the ir\n");
+    printf("The registrar gets the request\n");
     expect(registrar_gets(e) == DUSKSTALL_DONE, "the request taken");
     expect_states(e, DUSKSTALL_TRANSACTION_ASKED, DUSKSTALL_ENROLMENT_ASKED);
 
@@ -131,6 +131,15 @@ static void grant(struct ends *e)
     send_from(e, duskstall_registrar_outgoing(e->answer), REGISTRAR);
 }
 
+/* Gives the certConf that is to be sent. */
+static void accept_certificate(struct ends *e, uint8_t *outgoing)
+{
+    printf("Board %d gets the response, and accepts the certificate\n", BOARD);
+    expect(board_gets(e) == DUSKSTALL_DONE, "the response taken");
+    expect_states(e, DUSKSTALL_TRANSACTION_GRANTED, DUSKSTALL_ENROLMENT_CONFIRMING);
+    memcpy(outgoing, e->answer + DUSKSTALL_END_ENTITY_OUTGOING, DUSKSTALL_OUTGOING_BYTES);
+}
+
 /* Board 8 sends board 7's certConf as its own, protected with its own key. */
 static void stolen_confirmation(struct ends *e, const uint8_t *outgoing)
 {
@@ -141,47 +150,80 @@ static void stolen_confirmation(struct ends *e, const uint8_t *outgoing)
     expect_states(e, DUSKSTALL_TRANSACTION_GRANTED, DUSKSTALL_ENROLMENT_CONFIRMING);
 }
 
-static void confirm(struct ends *e)
+/* A host that does not write the certReqId it is given: in an enrolment by p10cr it is -1. */
+static void other_cert_req_id(struct ends *e, const uint8_t *outgoing)
 {
-    uint8_t outgoing[DUSKSTALL_OUTGOING_BYTES];
-    printf("Board %d gets the ip, and accepts the certificate\n", BOARD);
-    expect(board_gets(e) == DUSKSTALL_DONE, "the response taken");
+    uint8_t changed[DUSKSTALL_OUTGOING_BYTES];
+    printf("Board %d's host writes certReqId 0 into its certConf\n", BOARD);
+    memcpy(changed, outgoing, sizeof changed);
+    memset(changed + DUSKSTALL_OUTGOING_CERT_REQ_ID, 0, DUSKSTALL_CERT_REQ_ID_BYTES);
+    send_from(e, changed, BOARD);
+    expect(registrar_gets(e) == DUSKSTALL_REFUSED, "a refusal");
+    expect(e->answer[DUSKSTALL_ANSWER_REFUSAL] == DUSKSTALL_REFUSED_CERT_REQ_ID, "refusal 16");
     expect_states(e, DUSKSTALL_TRANSACTION_GRANTED, DUSKSTALL_ENROLMENT_CONFIRMING);
-    memcpy(outgoing, e->answer + DUSKSTALL_END_ENTITY_OUTGOING, sizeof outgoing);
+}
 
-    stolen_confirmation(e, outgoing);
-
+static void confirm(struct ends *e, const uint8_t *outgoing)
+{
     printf("The registrar gets board %d's certConf\n", BOARD);
     send_from(e, outgoing, BOARD);
     expect(registrar_gets(e) == DUSKSTALL_DONE, "the confirmation taken");
     expect_states(e, DUSKSTALL_TRANSACTION_CONFIRMED, DUSKSTALL_ENROLMENT_CONFIRMING);
+}
 
+static void confirm_again(struct ends *e)
+{
     printf("The pkiConf is lost, and the line repeats the certConf\n");
     expect(registrar_gets(e) == DUSKSTALL_AGAIN, "the same once more");
     expect_states(e, DUSKSTALL_TRANSACTION_CONFIRMED, DUSKSTALL_ENROLMENT_CONFIRMING);
-    send_from(e, duskstall_registrar_outgoing(e->answer), REGISTRAR);
 }
 
-static void finish(struct ends *e)
+static void finish(struct ends *e, const char *pkiconf)
 {
-    printf("Board %d gets the second pkiConf\n", BOARD);
+    printf("Board %d gets %s\n", BOARD, pkiconf);
+    send_from(e, duskstall_registrar_outgoing(e->answer), REGISTRAR);
     expect(board_gets(e) == DUSKSTALL_DONE, "the pkiConf taken");
     expect_states(e, DUSKSTALL_TRANSACTION_CONFIRMED, DUSKSTALL_ENROLMENT_SURE);
     expect(memcmp(e->table + DUSKSTALL_TRANSACTION_HASH, e->enrolment + DUSKSTALL_ENROLMENT_HASH,
                   DUSKSTALL_HASH_BYTES) == 0,
            "the same hash at both ends");
+    if (!failed)
+        printf("The registrar says Confirmed, board %d says Sure, and both hold the same hash.\n", BOARD);
+}
+
+/* The slot is Free again. */
+static void close_transaction(struct ends *e)
+{
+    uint8_t id[DUSKSTALL_ID_BYTES];
+    printf("The registrar's host closes the transaction\n");
+    memcpy(id, e->table + DUSKSTALL_TRANSACTION_ID, sizeof id);
+    uint64_t code = duskstall_registrar_close(e->table, sizeof e->table, id, sizeof id, e->answer, sizeof e->answer);
+    show_registrar_answer("registrar close", code, e->answer);
+    expect(code == DUSKSTALL_DONE, "the transaction closed");
+    expect_states(e, DUSKSTALL_TRANSACTION_FREE, DUSKSTALL_ENROLMENT_SURE);
 }
 
 int main(void)
 {
     static struct ends e;
+    uint8_t cert_conf[DUSKSTALL_OUTGOING_BYTES];
     expect(duskstall_registrar_empty(e.table, sizeof e.table) == DUSKSTALL_DONE, "the empty table");
-    request(&e);
+
+    request(&e, DUSKSTALL_IR);
     damaged_request(&e);
     grant(&e);
-    confirm(&e);
-    finish(&e);
-    if (!failed)
-        printf("The registrar says Confirmed, board %d says Sure, and both hold the same hash.\n", BOARD);
+    accept_certificate(&e, cert_conf);
+    stolen_confirmation(&e, cert_conf);
+    confirm(&e, cert_conf);
+    confirm_again(&e);
+    finish(&e, "the second pkiConf");
+    close_transaction(&e);
+
+    request(&e, DUSKSTALL_P10CR);
+    grant(&e);
+    accept_certificate(&e, cert_conf);
+    other_cert_req_id(&e, cert_conf);
+    confirm(&e, cert_conf);
+    finish(&e, "the pkiConf");
     return failed;
 }

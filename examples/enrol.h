@@ -27,6 +27,9 @@ int verify(const uint8_t *message, size_t len);
 /* Encodes and protects an outgoing message. `message` has room for DUSKSTALL_MESSAGE_LIMIT bytes; gives the length. */
 size_t encode(const uint8_t *outgoing, int sender, uint8_t *message);
 
+/* What RFC 9810 calls a kind of message. */
+const char *kind_name(uint64_t kind);
+
 /* Prints where the parts of a message are, or why it does not read. */
 void show_message(const uint8_t *message, size_t len);
 

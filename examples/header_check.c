@@ -46,7 +46,9 @@ FOLLOWS(DUSKSTALL_OUTGOING_HAS_STATUS, DUSKSTALL_OUTGOING_RECIP_NONCE, DUSKSTALL
 FOLLOWS(DUSKSTALL_OUTGOING_STATUS, DUSKSTALL_OUTGOING_HAS_STATUS, 1);
 FOLLOWS(DUSKSTALL_OUTGOING_HASH, DUSKSTALL_OUTGOING_STATUS, 4);
 FOLLOWS(DUSKSTALL_OUTGOING_FAILURE, DUSKSTALL_OUTGOING_HASH, DUSKSTALL_HASH_BYTES);
-FOLLOWS(DUSKSTALL_OUTGOING_BYTES, DUSKSTALL_OUTGOING_FAILURE, 1);
+FOLLOWS(DUSKSTALL_OUTGOING_HAS_CERT_REQ_ID, DUSKSTALL_OUTGOING_FAILURE, 1);
+FOLLOWS(DUSKSTALL_OUTGOING_CERT_REQ_ID, DUSKSTALL_OUTGOING_HAS_CERT_REQ_ID, 1);
+FOLLOWS(DUSKSTALL_OUTGOING_BYTES, DUSKSTALL_OUTGOING_CERT_REQ_ID, 4);
 
 FOLLOWS(DUSKSTALL_FIELDS, DUSKSTALL_FIELD_PROTECTED_LENGTH, 1);
 
@@ -277,6 +279,65 @@ static void verdicts_and_decisions(void)
     }
 }
 
+/* What is to be sent carries a certReqId, and this one. */
+static void carries(int number, const uint8_t *outgoing, const char *what)
+{
+    int32_t found = (int32_t)duskstall_number(outgoing + DUSKSTALL_OUTGOING_CERT_REQ_ID, DUSKSTALL_CERT_REQ_ID_BYTES);
+    expect(1, outgoing[DUSKSTALL_OUTGOING_HAS_CERT_REQ_ID], what);
+    expect((uint64_t)number, (uint64_t)found, what);
+}
+
+/* The response to a request of this kind. */
+static void response_carries(uint8_t kind, int number)
+{
+    struct lent l = lent_for(ISSUE);
+    l.bytes[STATE][DUSKSTALL_TRANSACTION_KIND] = kind;
+    l.bytes[STATE][DUSKSTALL_TRANSACTION_STATE] = DUSKSTALL_TRANSACTION_ASKED;
+    expect(DUSKSTALL_DONE, make(ISSUE, &l), "issue");
+    carries(number, duskstall_registrar_outgoing(l.bytes[ANSWER]), "certReqId of a response");
+}
+
+/* The request carries none. A response is taken with this number and no other, and the certConf carries the same. */
+static void cert_conf_carries(uint8_t kind, uint8_t response_kind, int number)
+{
+    enum { BODY = 78, CERT_REQ_ID = 88 }; /* the bytes of the body's tag and of certReqId */
+    for (int tried = -2; tried <= 1; tried++) {
+        struct lent l = lent_for(RESPONSE);
+        uint8_t message[sizeof response];
+        memcpy(message, response, sizeof message);
+        message[BODY] = (uint8_t)(0xA0 + response_kind);
+        message[CERT_REQ_ID] = (uint8_t)tried;
+        duskstall_end_entity_start(l.bytes[STATE], l.len[STATE], kind, l.bytes[ID], l.len[ID], l.bytes[NONCE],
+                                   l.len[NONCE], l.bytes[ANSWER], l.len[ANSWER]);
+        expect(0, duskstall_end_entity_outgoing(l.bytes[ANSWER])[DUSKSTALL_OUTGOING_HAS_CERT_REQ_ID], "a request");
+        duskstall_end_entity_message(l.bytes[STATE], l.len[STATE], message, sizeof message, DUSKSTALL_VERDICT_GOOD,
+                                     DUSKSTALL_DECISION_ACCEPT, l.bytes[HASH], l.len[HASH], l.bytes[NONCE],
+                                     l.len[NONCE], l.bytes[ANSWER], l.len[ANSWER]);
+        expect(tried == number ? 0 : DUSKSTALL_REFUSED_CERT_REQ_ID, l.bytes[ANSWER][DUSKSTALL_ANSWER_REFUSAL],
+               "certReqId in a response");
+        if (tried == number)
+            carries(number, duskstall_end_entity_outgoing(l.bytes[ANSWER]), "certReqId of a certConf");
+    }
+}
+
+/* -1 in an enrolment by p10cr, and 0 in every other. */
+static void cert_req_ids(void)
+{
+    static const struct {
+        uint8_t request, response;
+        int number;
+    } enrolments[] = {
+        {DUSKSTALL_IR, DUSKSTALL_IP, 0},
+        {DUSKSTALL_CR, DUSKSTALL_CP, 0},
+        {DUSKSTALL_P10CR, DUSKSTALL_CP, -1},
+        {DUSKSTALL_KUR, DUSKSTALL_KUP, 0},
+    };
+    for (size_t i = 0; i < sizeof enrolments / sizeof enrolments[0]; i++) {
+        response_carries(enrolments[i].request, enrolments[i].number);
+        cert_conf_carries(enrolments[i].request, enrolments[i].response, enrolments[i].number);
+    }
+}
+
 /* The limits of the reader, and of the empty table's length. */
 static void limits(void)
 {
@@ -325,6 +386,7 @@ int main(void)
     all_steps();
     kinds();
     verdicts_and_decisions();
+    cert_req_ids();
     limits();
     sizes();
     if (!failed)

@@ -3,7 +3,7 @@
 
 #include <stdio.h>
 
-static const char *kind_name(uint64_t kind)
+const char *kind_name(uint64_t kind)
 {
     static const char *const names[] = {
         "ir", "ip", "cr", "cp", "p10cr", "popdecc", "popdecr", "kur", "kup", "krr", "krp", "rr", "rp", "ccr",
@@ -127,6 +127,8 @@ static void show_outgoing(const uint8_t *outgoing)
         return;
     }
     printf("; to send: %s", kind_name(outgoing[DUSKSTALL_OUTGOING_KIND]));
+    if (outgoing[DUSKSTALL_OUTGOING_HAS_CERT_REQ_ID])
+        printf(", certReqId %d", (int32_t)duskstall_number(outgoing + DUSKSTALL_OUTGOING_CERT_REQ_ID, 4));
     if (outgoing[DUSKSTALL_OUTGOING_HAS_STATUS])
         printf(", status %u", (unsigned)duskstall_number(outgoing + DUSKSTALL_OUTGOING_STATUS, 4));
     printf("\n");

@@ -26,7 +26,8 @@
  *   - It draws ids and nonces: 16 random bytes each, none of them twice.
  *   - It issues certificates and hashes them to 32 bytes: at the registrar for issue, at the end entity for a response.
  *   - It decides whether a request is granted and whether a certificate is accepted.
- *   - It encodes, protects and sends every outgoing message. certReqId is 0 in all of them.
+ *   - It encodes, protects and sends every outgoing message. A response and a certConf have the certReqId that is given
+ *     with them: 0, or -1 in an enrolment by p10cr. Its own ir, cr or kur has 0.
  *   - It hands each call the table or the enrolment as the last call on it left it: it puts no older copy back, empties
  *     the table only at the beginning, and starts an enrolment only over bytes that no enrolment needs any more.
  *
@@ -117,6 +118,7 @@ extern "C" {
 #define DUSKSTALL_HASH_BYTES 32                 /* a certHash */
 #define DUSKSTALL_BOARD_BYTES 2                 /* a board */
 #define DUSKSTALL_STATUS_BYTES 4                /* a PKIStatus */
+#define DUSKSTALL_CERT_REQ_ID_BYTES 4           /* a certReqId */
 #define DUSKSTALL_OFFSET_BYTES 8                /* a fault's offset */
 #define DUSKSTALL_SLOTS 16                      /* transactions in a table */
 #define DUSKSTALL_TRANSACTION_BYTES                                                                                    \
@@ -124,7 +126,8 @@ extern "C" {
 #define DUSKSTALL_TABLE_BYTES (DUSKSTALL_SLOTS * DUSKSTALL_TRANSACTION_BYTES) /* the slots one after the other */
 #define DUSKSTALL_ENROLMENT_BYTES (DUSKSTALL_ID_BYTES + 1 + 2 * DUSKSTALL_NONCE_BYTES + DUSKSTALL_HASH_BYTES + 1)
 #define DUSKSTALL_OUTGOING_BYTES                                                                                       \
-    (1 + DUSKSTALL_ID_BYTES + 2 * DUSKSTALL_NONCE_BYTES + 2 + DUSKSTALL_STATUS_BYTES + DUSKSTALL_HASH_BYTES + 1)
+    (1 + DUSKSTALL_ID_BYTES + 2 * DUSKSTALL_NONCE_BYTES + 3 + DUSKSTALL_STATUS_BYTES + DUSKSTALL_HASH_BYTES + 1 +      \
+     DUSKSTALL_CERT_REQ_ID_BYTES)
 #define DUSKSTALL_REGISTRAR_ANSWER_BYTES (4 + DUSKSTALL_OFFSET_BYTES + 3 + DUSKSTALL_OUTGOING_BYTES)
 #define DUSKSTALL_END_ENTITY_ANSWER_BYTES (4 + DUSKSTALL_OFFSET_BYTES + 2 + DUSKSTALL_OUTGOING_BYTES)
 #define DUSKSTALL_FIELDS 47                     /* numbers, of 8 bytes each, that duskstall_read writes */
@@ -181,7 +184,8 @@ enum duskstall_code {
     row(DUSKSTALL_REFUSED_OTHER_BOARD, 13, 23, "certConf, verdict names another board than the record")                \
     row(DUSKSTALL_REFUSED_RECIP_NONCE, 14, 13, "recipNonce absent or not the last nonce this record sent")             \
     row(DUSKSTALL_REFUSED_ENTRIES, 15, 2, "not exactly one entry")                                                     \
-    row(DUSKSTALL_REFUSED_CERT_REQ_ID, 16, 2, "certReqId in that one entry not 0")                                     \
+    /* by the kind of the transaction that a certConf names, of the enrolment that a response answers */               \
+    row(DUSKSTALL_REFUSED_CERT_REQ_ID, 16, 2, "certReqId in that one entry not -1 for p10cr, not 0 for the others")    \
     row(DUSKSTALL_REFUSED_HASH_ALG, 17, 2, "certConf, hashAlg with pvno 2")                                            \
     row(DUSKSTALL_REFUSED_STATUS, 18, 2,                                                                               \
         "certConf status not 0 or 2; board: response status not 0, 1, 2; error status not 2")                          \
@@ -351,7 +355,11 @@ enum duskstall_outgoing_place {
     /* 32: certHash, in a certConf */
     DUSKSTALL_OUTGOING_HASH = DUSKSTALL_OUTGOING_STATUS + DUSKSTALL_STATUS_BYTES,
     /* in an error, the bit for failInfo; DUSKSTALL_NO_BIT for none */
-    DUSKSTALL_OUTGOING_FAILURE = DUSKSTALL_OUTGOING_HASH + DUSKSTALL_HASH_BYTES
+    DUSKSTALL_OUTGOING_FAILURE = DUSKSTALL_OUTGOING_HASH + DUSKSTALL_HASH_BYTES,
+    /* 1 in a response and a certConf */
+    DUSKSTALL_OUTGOING_HAS_CERT_REQ_ID = DUSKSTALL_OUTGOING_FAILURE + 1,
+    /* 4, two's complement: 0, or -1 in an enrolment by p10cr; signed it is (int32_t)duskstall_number(place, 4) */
+    DUSKSTALL_OUTGOING_CERT_REQ_ID = DUSKSTALL_OUTGOING_HAS_CERT_REQ_ID + 1
 };
 
 /* What is to be sent, or null. */
@@ -365,7 +373,7 @@ static inline const uint8_t *duskstall_end_entity_outgoing(const uint8_t *answer
     return answer[DUSKSTALL_END_ENTITY_SENDS] ? answer + DUSKSTALL_END_ENTITY_OUTGOING : NULL;
 }
 
-/* A number in so many bytes, at a place: a board, a status, a fault's offset. */
+/* A number in so many bytes, at a place: a board, a status, a certReqId, a fault's offset. */
 static inline uint64_t duskstall_number(const uint8_t *bytes, size_t len)
 {
     uint64_t number = 0;

@@ -22,10 +22,11 @@ const OUTCOME_BYTES: usize = 3 + FAULT_BYTES;
 const REGISTRAR_HEAD_BYTES: usize = OUTCOME_BYTES + 2;
 const END_ENTITY_HEAD_BYTES: usize = OUTCOME_BYTES + 1;
 
-/// The size of an outgoing message in an answer: kind, id, two nonces, the second
-/// one and the status with whether they are there, hash and failure.
+/// The size of an outgoing message in an answer: kind, id, two nonces, status,
+/// hash, failure and certReqId; the second nonce, the status and the certReqId
+/// with whether they are there.
 const OUTGOING_BYTES: usize =
-    1 + ID_BYTES + 2 * NONCE_BYTES + 2 + size_of::<u32>() + HASH_BYTES + 1;
+    1 + ID_BYTES + 2 * NONCE_BYTES + 3 + size_of::<u32>() + HASH_BYTES + 1 + size_of::<i32>();
 
 /// The size of the registrar's answer: its head and the outgoing message.
 pub const REGISTRAR_ANSWER_BYTES: usize = REGISTRAR_HEAD_BYTES + OUTGOING_BYTES;
@@ -136,7 +137,8 @@ fn outgoing(bytes: &[u8; OUTGOING_BYTES]) -> Option<Outgoing> {
     let (has_status, rest) = rest.split_first()?;
     let (status, rest) = rest.split_first_chunk()?;
     let (hash, rest) = rest.split_first_chunk()?;
-    let [failure] = rest else { return None };
+    let (failure, rest) = rest.split_first()?;
+    let (has_number, number) = rest.split_first()?;
     Some(Outgoing {
         kind: *kind,
         id: TransactionId(*id),
@@ -145,6 +147,7 @@ fn outgoing(bytes: &[u8; OUTGOING_BYTES]) -> Option<Outgoing> {
         status: flag(*has_status)?.then_some(u32::from_be_bytes(*status)),
         hash: (*kind == CERT_CONF).then_some(CertHash(*hash)),
         failure: bit_of(*failure),
+        number: flag(*has_number)?.then_some(i32::from_be_bytes(number.try_into().ok()?)),
     })
 }
 
@@ -153,5 +156,31 @@ fn flag(byte: u8) -> Option<bool> {
         0 => Some(false),
         1 => Some(true),
         _ => None,
+    }
+}
+
+#[cfg(test)]
+mod tests {
+    use super::*;
+
+    /// A certConf to be sent, with these last five bytes.
+    fn cert_conf(number: [u8; 5]) -> EndEntityAnswer {
+        let mut bytes = [0; END_ENTITY_ANSWER_BYTES];
+        bytes[END_ENTITY_HEAD_BYTES - 1] = 1;
+        bytes[END_ENTITY_HEAD_BYTES] = CERT_CONF;
+        bytes[END_ENTITY_ANSWER_BYTES - 5..].copy_from_slice(&number);
+        end_entity(0, &bytes)
+    }
+
+    #[test]
+    fn cert_req_id_of_an_answer() {
+        let number = |bytes| cert_conf(bytes).outgoing.expect("it is sent").number;
+        assert_eq!(number([0, 0, 0, 0, 0]), None);
+        assert_eq!(number([1, 0, 0, 0, 0]), Some(0));
+        assert_eq!(number([1, 0xFF, 0xFF, 0xFF, 0xFF]), Some(-1));
+        assert_eq!(number([1, 0x80, 0, 0, 1]), Some(i32::MIN + 1));
+        for flag in 2..=u8::MAX {
+            assert_eq!(cert_conf([flag, 0, 0, 0, 0]), OUTSIDE_CONTRACT);
+        }
     }
 }

@@ -89,6 +89,9 @@ pub struct Outgoing {
     pub hash: Option<CertHash>,
     /// The PKIFailureInfo bit, in an error.
     pub failure: Option<u8>,
+    /// certReqId, in a response and a certConf: 0, or -1 where the enrolment is
+    /// by p10cr.
+    pub number: Option<i32>,
 }
 
 /// The registrar's answer.

@@ -46,6 +46,15 @@ fn response_to(request: u8) -> u8 {
     }
 }
 
+/// The certReqId of an enrolment by a request of this kind: "-1 for p10cr",
+/// which carries none itself, and "0 for the others".
+fn request_number(request: u8) -> i32 {
+    match request {
+        P10CR => -1,
+        _ => 0,
+    }
+}
+
 /// A message to be sent, without what only some kinds carry.
 fn plain(kind: u8, id: TransactionId, nonce: FreshNonce, recip_nonce: Option<Nonce>) -> Outgoing {
     Outgoing {
@@ -56,6 +65,7 @@ fn plain(kind: u8, id: TransactionId, nonce: FreshNonce, recip_nonce: Option<Non
         status: None,
         hash: None,
         failure: None,
+        number: None,
     }
 }
 

@@ -52,7 +52,7 @@ impl Refusal {
             13 => "certConf, verdict names another board than the record",
             14 => "recipNonce absent or not the last nonce this record sent",
             15 => "not exactly one entry",
-            16 => "certReqId in that one entry not 0",
+            16 => "certReqId in that one entry not -1 for p10cr, not 0 for the others",
             17 => "certConf, hashAlg with pvno 2",
             18 => {
                 "certConf status not 0 or 2; board: response status not 0, 1, 2; error status not 2"

@@ -19,10 +19,11 @@ mod tally;
 
 use duskstall_host::library::{self, NO_STATE};
 use duskstall_host::testing::random::Random;
-use duskstall_host::{model, END_ENTITY_ANSWER_BYTES, REGISTRAR_ANSWER_BYTES, TABLE_BYTES};
+use duskstall_host::{model, Enrolment, Transaction, END_ENTITY_ANSWER_BYTES};
+use duskstall_host::{REGISTRAR_ANSWER_BYTES, TABLE_BYTES, TRANSACTION_BYTES};
 use pool::Pool;
 use std::time::Instant;
-use tally::Tally;
+use tally::{End, Record, Tally};
 
 /// Calls compared, at both ends together.
 const CALLS: usize = 2_000_000;
@@ -30,25 +31,57 @@ const CALLS: usize = 2_000_000;
 /// Calls on one state before another is drawn.
 const LIST: usize = 40;
 
-/// The refusals of the registrar.
-const REGISTRAR_ROWS: [u8; 22] = [
-    1, 2, 3, 4, 5, 6, 7, 8, 9, 10, 11, 12, 13, 14, 15, 16, 17, 18, 19, 20, 30, 31,
-];
+const REGISTRAR: End = End {
+    name: "registrar",
+    answer: REGISTRAR_ANSWER_BYTES,
+    rows: &[
+        1, 2, 3, 4, 5, 6, 7, 8, 9, 10, 11, 12, 13, 14, 15, 16, 17, 18, 19, 20, 30, 31,
+    ],
+    again: true,
+    records: |table| table.chunks(TRANSACTION_BYTES).map(transaction).collect(),
+    states: &[
+        "Asked",
+        "Confirmed",
+        "Declined",
+        "Granted",
+        "Lapsed",
+        "Refused",
+    ],
+};
 
-/// The refusals of an end entity.
-const END_ENTITY_ROWS: [u8; 17] = [1, 2, 3, 4, 5, 6, 7, 8, 12, 14, 15, 16, 18, 20, 21, 31, 32];
+const END_ENTITY: End = End {
+    name: "end entity",
+    answer: END_ENTITY_ANSWER_BYTES,
+    rows: &[1, 2, 3, 4, 5, 6, 7, 8, 12, 14, 15, 16, 18, 20, 21, 31, 32],
+    again: false,
+    records: |enrolment| vec![self::enrolment(enrolment)],
+    states: &[
+        "Asked",
+        "Confirming",
+        "Declined",
+        "Declining",
+        "Failed",
+        "Sure",
+        "Unsettled",
+    ],
+};
+
+fn transaction(bytes: &[u8]) -> Option<Record> {
+    let found = Transaction::unpack(bytes)?;
+    Some((found.kind, format!("{:?}", found.state)))
+}
+
+fn enrolment(bytes: &[u8]) -> Option<Record> {
+    let found = Enrolment::unpack(bytes)?;
+    Some((found.kind, format!("{:?}", found.state)))
+}
 
 #[test]
 fn two_million_calls() {
     let started = Instant::now();
     let mut random = Random::new(0x9483);
-    let mut registrar = Tally::new("registrar", REGISTRAR_ANSWER_BYTES, true, &REGISTRAR_ROWS);
-    let mut end_entity = Tally::new(
-        "end entity",
-        END_ENTITY_ANSWER_BYTES,
-        false,
-        &END_ENTITY_ROWS,
-    );
+    let mut registrar = Tally::new(REGISTRAR);
+    let mut end_entity = Tally::new(END_ENTITY);
     while registrar.calls() + end_entity.calls() < CALLS {
         let pool = Pool::new(&mut random);
         let mut table = draw::table(&mut random, &pool);

@@ -2,6 +2,8 @@
 //! states, places, and the refusals with their bits and words.
 //! `examples/header_check.c` holds it to the library from C.
 
+#[path = "header/outgoing.rs"]
+mod outgoing;
 #[path = "header/refusals.rs"]
 mod refusals;
 
@@ -57,10 +59,15 @@ fn sizes_and_codes() {
         ("TRANSACTION_BYTES", TRANSACTION_BYTES),
         ("TABLE_BYTES", TABLE_BYTES),
         ("ENROLMENT_BYTES", ENROLMENT_BYTES),
-        // A record ends with its last field, which is one byte.
+        // A record ends with its last field, which is one byte, and an outgoing
+        // message with its certReqId.
         ("TRANSACTION_STATE", TRANSACTION_BYTES - 1),
         ("ENROLMENT_STATE", ENROLMENT_BYTES - 1),
-        ("OUTGOING_FAILURE", value("OUTGOING_BYTES") - 1),
+        ("CERT_REQ_ID_BYTES", size_of::<i32>()),
+        (
+            "OUTGOING_CERT_REQ_ID",
+            value("OUTGOING_BYTES") - size_of::<i32>(),
+        ),
         (
             "REGISTRAR_OUTGOING",
             REGISTRAR_ANSWER_BYTES - value("OUTGOING_BYTES"),

@@ -73,4 +73,12 @@ fn demand_3_on_a_hostile_line() {
     assert!(outside.met().is_superset(&shadowed));
     assert!(outside.met().is_subset(&whole));
     println!("{} kinds of answers, all met", whole.len());
+
+    // So is every move of a p10cr transaction and enrolment, and the certReqId of
+    // each sort at the other.
+    let moves: BTreeSet<String> = coverage::moves().difference(&shadowed).cloned().collect();
+    assert_eq!(inside.moves_of_p10cr(), moves);
+    for label in coverage::WRONG_NUMBERS {
+        assert!(inside.refused_number(label) && outside.refused_number(label));
+    }
 }

@@ -3,6 +3,20 @@
 //! and through the model. "Outside" marks a verdict that the premise of demand
 //! 3 rules out.
 
+/// Each list as a test of the library and one of the model.
+macro_rules! on_both {
+    ($($list:ident),* $(,)?) => {
+        mod compiled {
+            $(#[test] fn $list() { super::$list::<super::Compiled>(); })*
+        }
+        mod model {
+            $(#[test] fn $list() { super::$list::<super::Model>(); })*
+        }
+    };
+}
+
+#[path = "lists/cert_req_id.rs"]
+mod cert_req_id;
 #[path = "lists/expected.rs"]
 mod expected;
 #[path = "lists/scene.rs"]
@@ -250,6 +264,7 @@ fn zeros_everywhere<E: Ends>() {
         parts.kind = 24;
         parts.recip_nonce = Some(vec![0; 16]);
         parts.hash = vec![0; 32];
+        parts.number = -1;
     });
     scene.refuses(&cert_conf, good(0), 12, 2);
     scene.opens(&request, 0, 0);
@@ -267,18 +282,6 @@ fn zeros_everywhere<E: Ends>() {
     scene.close(zero_id);
     scene.close_refused(zero_id, 30);
     scene.table_is_empty();
-}
-
-/// Each list as a test of the library and one of the model.
-macro_rules! on_both {
-    ($($list:ident),* $(,)?) => {
-        mod compiled {
-            $(#[test] fn $list() { super::$list::<super::Compiled>(); })*
-        }
-        mod model {
-            $(#[test] fn $list() { super::$list::<super::Model>(); })*
-        }
-    };
 }
 
 on_both!(

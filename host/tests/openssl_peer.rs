@@ -43,11 +43,6 @@ fn enrols(exchange: &Exchange) {
     end_entity::is_sure(exchange);
 }
 
-fn is_refused_by_16(exchange: &Exchange) {
-    registrar::refuses_by_16(exchange);
-    end_entity::refuses_by_16(exchange);
-}
-
 #[test]
 fn openssl_ir_enrols() {
     with_openssl([0, 1, 24, 19], "-cmd ir", enrols);
@@ -64,8 +59,8 @@ fn openssl_kur_enrols() {
 }
 
 #[test]
-fn openssl_p10cr_is_refused_by_16() {
-    with_openssl([4, 3, 24, 19], "-cmd p10cr -csr new.csr", is_refused_by_16);
+fn openssl_p10cr_enrols() {
+    with_openssl([4, 3, 24, 19], "-cmd p10cr -csr new.csr", enrols);
 }
 
 /// What the registrar says of the requests, 0 for done and else the refusal's
@@ -82,17 +77,9 @@ type Said<'a> = (
 fn expected(sort: &str) -> Said<'static> {
     use {EnrolmentState as Board, TransactionState as Record};
     match sort {
-        "ir" | "cr" | "kur" | "extra" | "sans" | "hmac256" => {
+        "ir" | "cr" | "kur" | "p10cr" | "extra" | "sans" | "hmac256" => {
             (&[0, 0], Some(Record::Confirmed), &[0, 0], Some(Board::Sure))
         }
-        // certReqId -1; without a certConf of its own the board has no use for
-        // the pkiConf.
-        "p10cr" => (
-            &[0, 16],
-            Some(Record::Granted),
-            &[16, 14],
-            Some(Board::Asked),
-        ),
         // Polling comes with M-103: until then status 3 and pollReq are refused,
         // and the later responses answer a nonce that the board never sent.
         "poll" => (
@@ -136,10 +123,13 @@ fn stored_corpus_goes_through_both_ends() {
         let (responses, board) = end_entity::says(exchange);
         let said: Said = (&requests, record, &responses, board);
         assert_eq!(said, expected(sort), "{name}");
-        match (record, board) {
-            (Some(TransactionState::Confirmed), Some(EnrolmentState::Sure)) => enrols(exchange),
-            _ if sort == "p10cr" => is_refused_by_16(exchange),
-            _ => {}
+        if (record, board)
+            == (
+                Some(TransactionState::Confirmed),
+                Some(EnrolmentState::Sure),
+            )
+        {
+            enrols(exchange);
         }
         messages += exchange.requests.len() + exchange.responses.len();
         let words = format!("registrar {requests:?} {record:?}, board {responses:?} {board:?}");

@@ -125,6 +125,7 @@ pub(crate) fn confirm(
 ) -> EndEntityAnswer
     ensures { λ r. ⌜ r ≡ confirming enrolment (input .accept) (input .hash) (input .nonce) answered ⌝ }
 {
+    let kind = enrolment.kind;
     let id = enrolment.id;
     let hash = input.hash;
     let nonce = input.nonce;
@@ -133,7 +134,7 @@ pub(crate) fn confirm(
         outcome: Outcome::Done,
         fault: no_fault(),
         sends: true,
-        outgoing: outgoing::cert_conf(id, nonce, answered, decision_status(accept), hash),
+        outgoing: outgoing::cert_conf(kind, id, nonce, answered, decision_status(accept), hash),
         enrolment: confirmed(enrolment, accept, hash, nonce, answered),
     }
 }

@@ -9,13 +9,15 @@ use protocol::TransactionId;
 use protocol::kinds::CERT_CONF;
 use protocol::kinds::ERROR;
 use protocol::kinds::PKI_CONF;
+use protocol::kinds::request_number;
+use protocol::kinds::response_to;
 use protocol::no_hash;
 use protocol::no_id;
 use protocol::no_nonce;
 ghost use mathlib.Core.Path.{_≡_};
-ghost use Rattle.protocol.specs.Outgoing.{noContents, withStatus, withHash, withFailure, silent, requestOut, answerOut, responseOut, certConfOut, pkiConfOut, errorOut};
+ghost use Rattle.protocol.specs.Outgoing.{noContents, withStatus, withHash, withFailure, withNumber, silent, requestOut, answerOut, responseOut, certConfOut, pkiConfOut, errorOut};
 
-// No status, no hash, no bit.
+// No status, no hash, no bit, no number.
 fn blank() -> OutgoingContents
     ensures { λ r. ⌜ r ≡ noContents ⌝ }
 {
@@ -24,6 +26,8 @@ fn blank() -> OutgoingContents
         status: 0,
         hash: no_hash(),
         failure: FailureInfo::NoBit,
+        has_number: false,
+        number: 0,
     }
 }
 
@@ -54,7 +58,18 @@ fn with_failure(contents: OutgoingContents, failure: FailureInfo) -> OutgoingCon
         status: contents.status,
         hash,
         failure,
+        has_number: contents.has_number,
+        number: contents.number,
     }
+}
+
+fn with_number(contents: OutgoingContents, number: u32) -> OutgoingContents
+    ensures { λ r. ⌜ r ≡ withNumber number contents ⌝ }
+{
+    let mut more = contents;
+    more.has_number = true;
+    more.number = number;
+    more
 }
 
 // What stands in an answer that sends nothing.
@@ -106,32 +121,35 @@ fn answer(
     }
 }
 
-// ip, cp or kup
+// ip, cp or kup, to a request of this kind
 pub fn response(
-    kind: u8,
+    request: u8,
     id: TransactionId,
     fresh: FreshNonce,
     answered: Nonce,
     status: u32,
 ) -> Outgoing
-    ensures { λ r. ⌜ r ≡ responseOut kind id fresh answered status ⌝ }
+    ensures { λ r. ⌜ r ≡ responseOut request id fresh answered status ⌝ }
 {
-    let contents = with_status(blank(), status);
-    answer(kind, id, fresh, answered, contents)
+    let decided = with_status(blank(), status);
+    let contents = with_number(decided, request_number(request));
+    answer(response_to(request), id, fresh, answered, contents)
 }
 
-// certConf
+// certConf, in an enrolment of this kind
 pub fn cert_conf(
+    request: u8,
     id: TransactionId,
     fresh: FreshNonce,
     answered: Nonce,
     status: u32,
     hash: Hash,
 ) -> Outgoing
-    ensures { λ r. ⌜ r ≡ certConfOut id fresh answered status hash ⌝ }
+    ensures { λ r. ⌜ r ≡ certConfOut request id fresh answered status hash ⌝ }
 {
-    let decided = with_status(blank(), status);
-    answer(CERT_CONF, id, fresh, answered, with_hash(decided, hash))
+    let confirmed = with_hash(with_status(blank(), status), hash);
+    let contents = with_number(confirmed, request_number(request));
+    answer(CERT_CONF, id, fresh, answered, contents)
 }
 
 // pkiconf

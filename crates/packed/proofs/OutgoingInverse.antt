@@ -19,6 +19,8 @@ fields o =
     ∷ Four (o .contents .status)
     ∷ Bytes hashBytes (o .contents .hash .bytes)
     ∷ Byte (failureNumber (o .contents .failure))
+    ∷ Flag (o .contents .«has_number»)
+    ∷ Four (o .contents .number)
     ∷ []
 
 module _ (o : Outgoing) (z : OutgoingSized o) where
@@ -31,14 +33,14 @@ module _ (o : Outgoing) (z : OutgoingSized o) where
 
   is-read : (s : List ℕ) → AllRead 0 (fields o) s → outgoingOf s ≡ o
   unfolding outgoingOf
-  is-read s (kind, (id, (sender-nonce, (has-recip-nonce, (recip-nonce, (has-status, (status, (hash, (failure, _))))))))) =
+  is-read s (kind, (id, (sender-nonce, (has-recip-nonce, (recip-nonce, (has-status, (status, (hash, (failure, (has-number, (number, _))))))))))) =
       λ i. record {
         kind = kind i;
         id = record { bytes = id i };
         «sender_nonce» = record { bytes = sender-nonce i };
         «has_recip_nonce» = has-recip-nonce i;
         «recip_nonce» = record { bytes = recip-nonce i };
-        contents = record { «has_status» = has-status i; status = status i; hash = record { bytes = hash i }; failure = (ap failureOf failure ∙ z .failure) i };
+        contents = record { «has_status» = has-status i; status = status i; hash = record { bytes = hash i }; failure = (ap failureOf failure ∙ z .failure) i; «has_number» = has-number i; number = number i };
       }
 
   pub outgoing-back : (rest : List ℕ) → outgoingOf (packOutgoing o ++ rest) ≡ o

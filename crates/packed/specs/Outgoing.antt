@@ -10,7 +10,7 @@ use Rattle.protocol.specs.declared.FailureInfo.the-variants.{NoBit, Bit}
 use Rattle.protocol.specs.declared.OutgoingContents.{OutgoingContents}
 use Rattle.protocol.specs.declared.Outgoing.{Outgoing}
 use Rattle.packed.specs.Bytes.{part, flag, flagAt, fourBytes, fourAt}
-use Rattle.packed.specs.Places.{idBytes, nonceBytes, hashBytes, outgoingKindAt, outgoingIdAt, outgoingSenderNonceAt, outgoingHasRecipNonceAt, outgoingRecipNonceAt, outgoingHasStatusAt, outgoingStatusAt, outgoingHashAt, outgoingFailureAt, outgoingEnd}
+use Rattle.packed.specs.Places.{idBytes, nonceBytes, hashBytes, outgoingKindAt, outgoingIdAt, outgoingSenderNonceAt, outgoingHasRecipNonceAt, outgoingRecipNonceAt, outgoingHasStatusAt, outgoingStatusAt, outgoingHashAt, outgoingFailureAt, outgoingHasNumberAt, outgoingNumberAt, outgoingEnd}
 
 -- a PKIFailureInfo bit; 255: none
 abbrev pub failureNumber : FailureInfo → ℕ
@@ -32,13 +32,15 @@ packNames o =
     (flag (o .«has_recip_nonce») ∷ []) ++
     o .«recip_nonce» .bytes)))
 
--- status, hash and failure
+-- status, hash, failure and certReqId
 unfoldable pub packContents : OutgoingContents → List ℕ
 packContents c =
     (flag (c .«has_status») ∷ []) ++ (
     fourBytes (c .status) ++ (
     c .hash .bytes ++ (
-    failureNumber (c .failure) ∷ [])))
+    (failureNumber (c .failure) ∷ []) ++ (
+    (flag (c .«has_number») ∷ []) ++
+    fourBytes (c .number)))))
 
 abbrev pub packOutgoing : Outgoing → List ℕ
 packOutgoing o = packNames o ++ packContents (o .contents)
@@ -51,6 +53,8 @@ outgoingContentsOf s =
       status = fourAt outgoingStatusAt s;
       hash = record { bytes = part outgoingHashAt hashBytes s };
       failure = failureOf (getD s outgoingFailureAt 0);
+      «has_number» = flagAt outgoingHasNumberAt s;
+      number = fourAt outgoingNumberAt s;
     }
 
 -- what the first bytes of a string say is to be sent

@@ -30,6 +30,10 @@ statusBytes = 4
 abbrev pub bitBytes : ℕ
 bitBytes = 1
 
+-- a certReqId
+abbrev pub numberBytes : ℕ
+numberBytes = 4
+
 abbrev pub codeBytes : ℕ
 codeBytes = 1
 
@@ -134,8 +138,14 @@ outgoingHashAt = outgoingStatusAt + statusBytes
 abbrev pub outgoingFailureAt : ℕ
 outgoingFailureAt = outgoingHashAt + hashBytes
 
+abbrev pub outgoingHasNumberAt : ℕ
+outgoingHasNumberAt = outgoingFailureAt + bitBytes
+
+abbrev pub outgoingNumberAt : ℕ
+outgoingNumberAt = outgoingHasNumberAt + flagBytes
+
 abbrev pub outgoingEnd : ℕ
-outgoingEnd = outgoingFailureAt + bitBytes
+outgoingEnd = outgoingNumberAt + numberBytes
 
 abbrev pub contentsPartBytes : ℕ
 contentsPartBytes = outgoingEnd - outgoingContentsAt

@@ -58,6 +58,8 @@ fn put_contents(bytes: &mut [u8], at: usize, c: OutgoingContents)
         at + places::OUTGOING_FAILURE,
         failure_number(failure),
     );
+    put_flag(bytes, at + places::OUTGOING_HAS_NUMBER, c.has_number);
+    put_4(bytes, at + places::OUTGOING_NUMBER, c.number);
 }
 
 // The message as bytes from an offset on.

@@ -20,6 +20,8 @@ pub(crate) const STATUS_BYTES: usize = 4;
 
 pub(crate) const BIT_BYTES: usize = 1;
 
+pub(crate) const NUMBER_BYTES: usize = 4;
+
 pub(crate) const CODE_BYTES: usize = 1;
 
 pub(crate) const REFUSAL_BYTES: usize = 1;
@@ -83,7 +85,11 @@ pub(crate) const OUTGOING_HASH: usize = OUTGOING_STATUS + STATUS_BYTES;
 
 pub(crate) const OUTGOING_FAILURE: usize = OUTGOING_HASH + HASH_BYTES;
 
-pub(crate) const OUTGOING_END: usize = OUTGOING_FAILURE + BIT_BYTES;
+pub(crate) const OUTGOING_HAS_NUMBER: usize = OUTGOING_FAILURE + BIT_BYTES;
+
+pub(crate) const OUTGOING_NUMBER: usize = OUTGOING_HAS_NUMBER + FLAG_BYTES;
+
+pub(crate) const OUTGOING_END: usize = OUTGOING_NUMBER + NUMBER_BYTES;
 
 // An answer: first what both ends say, then each end's own.
 pub(crate) const ANSWER_CODE: usize = 0;

@@ -25,7 +25,7 @@ use Rattle.protocol.specs.RegistrarRows.{repeats, confirms, opens, oneEn
 use Rattle.protocol.specs.Registrar.{registrarMessage, confirmed, doneSending}
 use Rattle.protocol.specs.MessageRules.{IsRefused}
 use Rattle.protocol.specs.Confirmation.{Matches, LeadsTo, Moving, MovedAnswer, Repeating, RepeatedAnswer, acknowledgement, ConfirmationRule}
-use Rattle.protocol.proofs.Tests.{same-number, holds-not, either, both, or-true, off-right, sameBytes-refl, off-left, true-false}
+use Rattle.protocol.proofs.Tests.{same-number, holds-not, either, both, or-true, off-right, sameBytes-refl, off-left, true-false, is-number}
 use Rattle.protocol.proofs.Carried.{part-there}
 use Rattle.protocol.proofs.Rows.{check-is, skip, through}
 use Rattle.protocol.proofs.RegistrarPromises.{message-promise}
@@ -82,7 +82,7 @@ module _ (t : TransactionTable) (d : RegistrarInput) (bytes : List ℕ) (m : Mes
 
   row-16 : otherRequest r f ≡ false
   unfolding fieldsOf
-  row-16 = off-right (hasEntries f && oneEntry f) (not (eqb (f .request) 0)) (holds-not (eqb (f .request) 0) (same-number (f .request) 0 (c .request)))
+  row-16 = off-right (hasEntries f && oneEntry f) _ (holds-not _ (same-number (f .request) _ (is-number (r .kind) (f .request) (c .request) ∙ rw conf)))
 
   alg-off : (b : Bool) → isPresent (m .body .entry .«hash_alg») ≡ b → (confirms f && oneEntry f && b && eqb (m .header .version) 2) ≡ false
   alg-off true e = off-right (confirms f && oneEntry f && true) (eqb (m .header .version) 2) (ap (λ (k : ℕ). eqb k 2) (c .hashAlg (present-part (m .body .entry .«hash_alg») e)))

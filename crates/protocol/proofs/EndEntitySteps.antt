@@ -104,7 +104,7 @@ module _ (w : World) (v : Inv w) (k : ℕ) (x : BoardEnrolment) (here : At (w .e
     settledOn = record { board = x .board; enrolment = confirmedEnrolment (x .enrolment) accept h n a }
 
     abbrev conf : Outgoing
-    conf = certConfOut (x .enrolment .id) n a (decision accept) h
+    conf = certConfOut (x .enrolment .kind) (x .enrolment .id) n a (decision accept) h
 
     conf-stands : (p : Outgoing) → some conf ≡ some p → (settledOn .enrolment .id ≡ p .id) × (settledOn .enrolment .last ≡ p .«sender_nonce») × (settledOn .enrolment .hash ≡ p .contents .hash) × (standsFor (settledOn .enrolment .state) (p .contents .status) ≡ true) × (p .contents .«has_status» ≡ true) × (p .«has_recip_nonce» ≡ true)
     conf-stands p e =

@@ -13,13 +13,13 @@ use Rattle.protocol.specs.declared.EnrolmentState.{EnrolmentState}
 use Rattle.protocol.specs.declared.Enrolment.{Enrolment}
 use Rattle.protocol.specs.declared.EnrolmentState.the-variants.{Asked, Confirming, Declining, Failed, Unsettled}
 use Rattle.protocol.specs.Bytes.{isId, isNonce, asNonce}
-use Rattle.protocol.specs.Message.{Fields, fieldsOf, statusOr0, optionalStatus, isResponse, responseTo}
+use Rattle.protocol.specs.Message.{Fields, fieldsOf, statusOr0, optionalStatus, isResponse, responseTo, requestNumber}
 use Rattle.protocol.specs.States.{isConfirming, assured, isWaiting, brokenState}
 use Rattle.protocol.specs.Refusals.{pass, LowestRow}
 use Rattle.protocol.specs.EndEntityRows.{otherId, otherNonce, otherAnswer, notOneResponse, otherNumber, badStatus, notAwaited, noCertificate, endEntityRows, responds, reports, oneResponse, acknowledges, hasStatus}
 use Rattle.protocol.specs.EndEntity.{endEntityMessage, endEntityChecked, confirming, responseTaken}
-use Rattle.protocol.specs.EnrolmentRules.{Heard, StatusIs, Acknowledges, becomes, Reports, Responds, EnrolmentRule}
-use Rattle.protocol.proofs.Tests.{holds-not, sameBytes-refl, true-false, off-left, off-right, same-number, or-true, other-than, response-kinds, is-response}
+use Rattle.protocol.specs.EnrolmentRules.{Heard, StatusIs, Acknowledges, becomes, certifies, Reports, Responds, EnrolmentRule}
+use Rattle.protocol.proofs.Tests.{holds-not, sameBytes-refl, true-false, off-left, off-right, same-number, or-true, other-than, response-kinds, is-response, is-number}
 use Rattle.protocol.proofs.Carried.{part-there}
 use Rattle.protocol.proofs.Rows.{check-is, skip, through}
 use Rattle.protocol.proofs.HeadRows.{passes-head}
@@ -150,9 +150,9 @@ module _ (x : Enrolment) (d : EndEntityInput) (bytes : List ℕ) (m : Message) (
     unfolding fieldsOf
     one-it = same-number (f .entries) 1 (k .entries)
 
-    number-it : eqb (f .request) 0 ≡ true
+    number-it : f .request ≡ requestNumber (x .kind)
     unfolding fieldsOf
-    number-it = same-number (f .request) 0 (k .request)
+    number-it = is-number (x .kind) (f .request) (k .request)
 
     certificate-off : Dec (s ≡ 2) → noCertificate f ≡ false
     unfolding fieldsOf
@@ -165,7 +165,7 @@ module _ (x : Enrolment) (d : EndEntityInput) (bytes : List ℕ) (m : Message) (
         passed
         (holds-not _ (or-true (acknowledges f || reports f) (eqb (f .kind) (responseTo (x .kind))) (same-number (f .kind) (responseTo (x .kind)) kind-is)))
         (off-right (responds f) _ (holds-not (oneResponse f) one-it))
-        (off-right (responds f && oneResponse f) _ (holds-not (eqb (f .request) 0) number-it))
+        (off-right (responds f && oneResponse f) _ (holds-not _ (same-number (f .request) (requestNumber (x .kind)) number-it)))
         (or-off _ _ (off-right (responds f && oneResponse f) _ (holds-not _ (ap (λ (n : ℕ). eqb n 0 || eqb n 1 || eqb n 2) (status-is s (k .status)) ∙ known-it s (k .known)))) (off-left (reports f) _ not-error))
         (or-off _ _ (or-off _ _ (off-right (responds f) _ (holds-not (isWaiting (x .state)) (rw (k .state)))) (off-left (acknowledges f) _ not-pkiconf)) (off-left (reports f) _ not-error))
         (certificate-off (ℕ-discrete s 2))
@@ -186,10 +186,14 @@ enrolment-rule x d bytes m =
       failed = λ c k e. reported x d bytes m c k ∙ ap (λ (t : EnrolmentState). becomes x (brokenState t)) e;
       unsettled = λ c k e. reported x d bytes m c k ∙ ap (becomes x) (broken-between (x .state) e);
       refused = λ c k. refused-it x d bytes m c k;
-      accepted = λ c s k z a. decided-it x d bytes m c s k z ∙ ap (λ (b : Bool). confirming x b (d .hash) (d .nonce) (c .nonce)) a;
-      rejected = λ c s k z a. decided-it x d bytes m c s k z ∙ ap (λ (b : Bool). confirming x b (d .hash) (d .nonce) (c .nonce)) a;
+      accepted = λ c s k z a. decided-it x d bytes m c s k z ∙ ap (λ (b : Bool). confirming x b (d .hash) (d .nonce) (c .nonce)) a ∙ ap (λ (q : ℕ). certifies x d (c .nonce) q Confirming 0) (numbered k);
+      rejected = λ c s k z a. decided-it x d bytes m c s k z ∙ ap (λ (b : Bool). confirming x b (d .hash) (d .nonce) (c .nonce)) a ∙ ap (λ (q : ℕ). certifies x d (c .nonce) q Declining 2) (numbered k);
     }
   where
+    -- the response has the number that the certConf is sent with
+    numbered : {s : ℕ} → Responds x m s → requestNumber (x .kind) ≡ m .body .entry .number
+    numbered k = sym (is-number (x .kind) _ (k .request))
+
     broken-between : (t : EnrolmentState) → (t ≡ Confirming) ⊎ (t ≡ Declining) → brokenState t ≡ Unsettled
     broken-between t (inl e) = rw e
     broken-between t (inr e) = rw e

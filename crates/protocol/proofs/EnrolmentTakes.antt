@@ -25,7 +25,7 @@ use Rattle.protocol.specs.Confirmation.{Sixteen}
 use Rattle.protocol.specs.EnrolmentRules.{Heard, Acknowledges, StatusIs, Reports, Responds}
 use Rattle.der.proofs.Auto.{and-left, and-right, or-false-right, or-false-left, or-cases}
 use Rattle.protocol.proofs.EndEntityPasses.{response-it, responds-it}
-use Rattle.protocol.proofs.Tests.{true-false, not-false, passes, isId-eq, isNonce-eq, one-of, eqb-eq, and-false, both, other-than}
+use Rattle.protocol.proofs.Tests.{true-false, not-false, passes, isId-eq, isNonce-eq, one-of, eqb-eq, and-false, both, other-than, number-is}
 use Rattle.protocol.proofs.RegistrarPromises.{done-refused}
 use Rattle.protocol.proofs.ConfirmationMoves.{sixteen, part-of, present-part}
 
@@ -149,7 +149,7 @@ module _ (x : Enrolment) (d : EndEntityInput) (bytes : List ℕ) (m : Message) w
         record {
           kind = response-it x d f e p q;
           entries = eqb-eq (f .entries) 1 one;
-          request = eqb-eq (f .request) 0 (not-false _ (and-false (responds f && oneResponse f) (not (eqb (f .request) 0)) (passes 16 rows e) ro));
+          request = number-is (x .kind) (f .request) (eqb-eq (f .request) _ (not-false _ (and-false (responds f && oneResponse f) _ (passes 16 rows e) ro)));
           status = status-by (m .body .entry .«has_status») _ refl refl;
           known = known-by _ (not-false _ (and-false (responds f && oneResponse f) (not (hasStatus 0 f || hasStatus 1 f || hasStatus 2 f)) (or-false-left P Q row-18) ro));
           state = is-waiting (x .state) (not-false (isWaiting (x .state)) (and-false (responds f) (not (isWaiting (x .state))) (or-false-left A B (or-false-left (A || B) C row-20)) r));

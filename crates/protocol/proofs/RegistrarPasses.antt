@@ -1,7 +1,7 @@
 -- What a message at the registrar shows that no row refuses: a confirmation of the transaction r, or a request.
 use Prim.Native.Nat.{ℕ}
 use mathlib.Core.List.{List}
-use mathlib.Core.Bool.{true, false, not, _&&_, _||_}
+use mathlib.Core.Bool.{true, false, not, cond, _&&_, _||_}
 use mathlib.Core.Option.{Option, none, some}
 use mathlib.Core.Path.{_≡_, refl, sym, _∙_, ap}
 use mathlib.Core.Logic.{_⊎_, inl, inr}
@@ -12,14 +12,15 @@ use Rattle.protocol.specs.declared.Transaction.{Transaction}
 use Rattle.protocol.specs.declared.TransactionTable.{TransactionTable}
 use Rattle.protocol.specs.declared.RegistrarAnswer.{RegistrarAnswer}
 use Rattle.protocol.specs.Bytes.{isNonce, sameHash}
-use Rattle.protocol.specs.Message.{Fields, statusOr0, certConf}
+use Rattle.protocol.specs.Message.{Fields, statusOr0, certConf, requestNumber}
 use Rattle.protocol.specs.Table.{hasFreeSlot}
 use Rattle.protocol.specs.States.{hasSent, hasHash, isGranted, settledBy}
 use Rattle.protocol.specs.Refusals.{pass, lowestRow, notSixteen}
 use Rattle.protocol.specs.RegistrarRows.{registrarRows, isGood, confirms, opens, names, hasEntries, oneEntry, repeats}
 use Rattle.protocol.specs.Registrar.{opened, confirmed, registrarChecked}
+use Rattle.protocol.specs.Slots.{NumberIs}
 use Rattle.der.proofs.Auto.{and-right, and-left}
-use Rattle.protocol.proofs.Tests.{passes, one-of, not-false, or-right, and-true-false, true-false, eqb-eq, and-false, isNonce-eq, or-true, both, hash-eq, cases}
+use Rattle.protocol.proofs.Tests.{passes, one-of, not-false, or-right, and-true-false, true-false, eqb-eq, and-false, isNonce-eq, or-true, both, hash-eq, cases, number-is}
 
 -- 7: the verdict is good
 pub passes-7 : (rs : List Transaction) (g : Option Transaction) (v : Verdict) (m : Fields) → lowestRow (registrarRows rs g v m) ≡ pass → not (isGood v) ≡ false
@@ -70,11 +71,11 @@ module _ (rs : List Transaction) (r : Transaction) (v : Verdict) (m : Fields) (e
   unfolding registrarRows
   one-it = not-false (oneEntry m) (and-false (hasEntries m) (not (oneEntry m)) (passes 15 (registrarRows rs (some r) v m) e) counted)
 
-  pub request-it : m .request ≡ 0
+  pub request-it : NumberIs (r .kind) (m .request)
   unfolding registrarRows
   request-it =
-      eqb-eq (m .request) 0
-      (not-false _ (and-false (hasEntries m && oneEntry m) (not (eqb (m .request) 0)) (passes 16 (registrarRows rs (some r) v m) e) (both (hasEntries m) (oneEntry m) counted one-it)))
+      let asked : m .request ≡ requestNumber (cond (confirms m) (r .kind) (m .kind)) = eqb-eq (m .request) _ (not-false _ (and-false (hasEntries m && oneEntry m) _ (passes 16 (registrarRows rs (some r) v m) e) (both (hasEntries m) (oneEntry m) counted one-it))) in
+      number-is (r .kind) (m .request) (asked ∙ rw conf)
 
   conf-one : (confirms m && oneEntry m) ≡ true
   conf-one = both (confirms m) (oneEntry m) conf one-it

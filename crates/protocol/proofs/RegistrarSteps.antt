@@ -78,7 +78,7 @@ module _ (w : World) (v : Inv w) where
   pub idle : (k : ℕ) → StepOf open-still (refusedQuietly k (w .table))
   idle k = registrar-idle w v none quiet-none
 
-  response-quiet : (k : ℕ) (i : TransactionId) (n : FreshNonce) (a : Nonce) (s : ℕ) → (k ≡ pkiConf → ⊥) → Quiet (some (responseOut k i n a s))
+  response-quiet : (k : ℕ) (i : TransactionId) (n : FreshNonce) (a : Nonce) (s : ℕ) → (responseTo k ≡ pkiConf → ⊥) → Quiet (some (responseOut k i n a s))
   response-quiet k i n a s d p e q = d (ap (λ (y : Outgoing). y .kind) (some-some e) ∙ q)
 
   responds :
@@ -90,13 +90,13 @@ module _ (w : World) (v : Inv w) where
       i
       r
       (responded r t (nonceFrom n) h)
-      (some (responseOut (responseTo (r .kind)) i n (r .taken) status))
+      (some (responseOut (r .kind) i n (r .taken) status))
       e
       live
       (own i r e)
       (λ s. asked-unsettled (r .state) s a)
-      (λ p q k. absurd (response-quiet (responseTo (r .kind)) i n (r .taken) status (response-kind (r .kind)) p q k))
-      (λ _. inl (responseOut (responseTo (r .kind)) i n (r .taken) status, refl, refl))
+      (λ p q k. absurd (response-quiet (r .kind) i n (r .taken) status (response-kind (r .kind)) p q k))
+      (λ _. inl (responseOut (r .kind) i n (r .taken) status, refl, refl))
       (λ s q. absurd (unsettled s q))
 
   pub issue-step : (i : TransactionId) (n : FreshNonce) (h : Hash) → StepOf open-still (registrarIssue (w .table) i n h)

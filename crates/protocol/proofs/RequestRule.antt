@@ -23,15 +23,15 @@ use Rattle.protocol.specs.declared.TransactionState.the-variants as at-r
 use Rattle.protocol.specs.declared.Outcome.the-variants as outcome
 use Rattle.protocol.specs.Bytes.{present, asId, asNonce, noNonce, noHash}
 use Rattle.grammar.specs.Span.{partOf}
-use Rattle.protocol.specs.Message.{optionalPart, Fields, fieldsOf, isPresent, isOpeningKind}
-use Rattle.protocol.specs.Table.{put, lookup, hasFreeSlot, freeSlot}
+use Rattle.protocol.specs.Message.{optionalPart, Fields, fieldsOf, isPresent, isOpeningKind, requestNumber}
+use Rattle.protocol.specs.Table.{put, lookup, hasFreeSlot, freeSlot, freeTransaction}
 use Rattle.protocol.specs.Refusals.{lowestRow, Row, pass, LowestRow, stop}
-use Rattle.protocol.specs.RegistrarRows.{isGood, registrarRows, oneEntry, hasEntries, opens, confirms, opensWithNonce}
+use Rattle.protocol.specs.RegistrarRows.{isGood, registrarRows, oneEntry, hasEntries, opens, confirms, opensWithNonce, otherRequest}
 use Rattle.protocol.specs.Registrar.{registrarChecked, registrarMessage, openedTransaction, doneQuietly}
 use Rattle.protocol.specs.Confirmation.{Sixteen}
 use Rattle.protocol.specs.Request.{IsRequest, Opening, Opened, RequestRule}
 use Rattle.der.proofs.Auto.{and-left, and-right}
-use Rattle.protocol.proofs.Tests.{true-false, eqb-eq, not-false, passes, request-kind, and-false, one-of, both, off-left, off-right, holds-not, same-number}
+use Rattle.protocol.proofs.Tests.{true-false, eqb-eq, not-false, passes, request-kind, and-false, one-of, both, off-left, off-right, holds-not, same-number, number-0}
 use Rattle.protocol.proofs.Carried.{part-there, part-absent}
 use Rattle.protocol.proofs.RegistrarPasses.{passes-7, room, opens-it, taken-by}
 use Rattle.protocol.proofs.Rows.{check-is, skip, through}
@@ -75,6 +75,11 @@ module _ (t : TransactionTable) (d : RegistrarInput) (bytes : List ℕ) (m : Mes
   abbrev rs : List Transaction
   rs = t .transactions
 
+  -- row 16 asks for 0 in every request that has an entry
+  asked-0 : confirms f ≡ false → (m .body .kind ≡ 4 → ⊥) → requestNumber (cond (confirms f) 0 (f .kind)) ≡ 0
+  unfolding fieldsOf
+  asked-0 e z = rw e (number-0 (m .body .kind) z)
+
   -- ## Only if
 
   module _ (reads : readingOf bytes ≡ read.Clean m) (kind : IsRequest (m .body .kind)) (h : lookup rs (asId (f .id)) ≡ none) (e : lowestRow (registrarRows rs none (d .verdict) f) ≡ pass) where
@@ -108,7 +113,7 @@ module _ (t : TransactionTable) (d : RegistrarInput) (bytes : List ℕ) (m : Mes
           holds = g .2;
           free = g .3;
           entries = λ z. eqb-eq (f .entries) 1 (one z);
-          request = λ z. eqb-eq (f .request) 0 (not-false _ (and-false (hasEntries f && oneEntry f) (not (eqb (f .request) 0)) (passes 16 rows e) (both (hasEntries f) (oneEntry f) (counted (m .body .kind) kind z) (one z))));
+          request = λ z. eqb-eq (f .request) _ (not-false _ (and-false (hasEntries f && oneEntry f) _ (passes 16 rows e) (both (hasEntries f) (oneEntry f) (counted (m .body .kind) kind z) (one z)))) ∙ asked-0 (request-other (m .body .kind) kind) z;
         }
 
   opens-by :
@@ -146,10 +151,10 @@ module _ (t : TransactionTable) (d : RegistrarInput) (bytes : List ℕ) (m : Mes
     entries-off (yes e) = off-left (hasEntries f) (not (oneEntry f)) (p10cr-off (m .body .kind) e)
     entries-off (no z) = off-right (hasEntries f) (not (oneEntry f)) (holds-not (oneEntry f) (same-number (f .entries) 1 (c .entries z)))
 
-    request-off : Dec (m .body .kind ≡ 4) → (hasEntries f && oneEntry f && not (eqb (f .request) 0)) ≡ false
+    request-off : Dec (m .body .kind ≡ 4) → otherRequest freeTransaction f ≡ false
     unfolding fieldsOf
-    request-off (yes e) = off-left (hasEntries f && oneEntry f) (not (eqb (f .request) 0)) (off-left (hasEntries f) (oneEntry f) (p10cr-off (m .body .kind) e))
-    request-off (no z) = off-right (hasEntries f && oneEntry f) (not (eqb (f .request) 0)) (holds-not (eqb (f .request) 0) (same-number (f .request) 0 (c .request z)))
+    request-off (yes e) = off-left (hasEntries f && oneEntry f) _ (off-left (hasEntries f) (oneEntry f) (p10cr-off (m .body .kind) e))
+    request-off (no z) = off-right (hasEntries f && oneEntry f) _ (holds-not _ (same-number (f .request) _ (c .request z ∙ sym (asked-0 no-conf z))))
 
     good-it : isGood (d .verdict) ≡ true
     good-it = rw (c .good)

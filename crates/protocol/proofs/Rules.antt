@@ -25,7 +25,7 @@ use Rattle.protocol.specs.declared.RegistrarAnswer.{RegistrarAnswer}
 use Rattle.protocol.specs.declared.TransactionState.the-variants as at-registrar
 use Rattle.protocol.specs.declared.Outcome.the-variants as outcome
 use Rattle.protocol.specs.Bytes.{asId, asNonce}
-use Rattle.protocol.specs.Message.{Fields, fieldsOf}
+use Rattle.protocol.specs.Message.{Fields, fieldsOf, requestNumber}
 use Rattle.protocol.specs.Outgoing.{errorOut, silent}
 use Rattle.protocol.specs.Table.{lookup}
 use Rattle.protocol.specs.States.{isGranted, mayIssue, mayRefuse, mayLapse, mayClose, hasSent}
@@ -35,7 +35,7 @@ use Rattle.protocol.specs.Registrar.{hostStep, registrarIssue, registrar
 use Rattle.protocol.specs.EndEntity.{endEntityMessage, endEntityRead}
 use Rattle.protocol.specs.HostRules.{hostRefusal, HostRule, HostRules}
 use Rattle.protocol.specs.MessageRules.{errorMessage, ErrorRule, UnreadRule, Corners, Tables}
-use Rattle.protocol.proofs.Tests.{none-some, some-some, true-false, T→true, true→T, cases, other-than}
+use Rattle.protocol.proofs.Tests.{none-some, some-some, true-false, T→true, true→T, cases, other-than, number-is}
 use Rattle.protocol.proofs.RegistrarStates.{not-asked, not-granted, MayClose, may-close, not-close}
 use Rattle.protocol.proofs.RegistrarPromises.{refused-bit, refused-number, done-refused, again-refused}
 use Rattle.protocol.proofs.RegistrarPasses.{taken-by}
@@ -71,8 +71,8 @@ pub host-rules : (t : TransactionTable) (i : TransactionId) → HostRules t i
 unfolding registrarIssue registrarRefuse registrarLapse registrarClose
 host-rules t i =
     record {
-      issue = λ n h. host-rule t i (λ s. s ≡ at-registrar.Asked) mayIssue (λ r e. rw e) (λ r. not-asked (r .state)) _ _ (λ r e. (sending-becomes t i r _ e _, (refl, refl)));
-      refuse = λ n. host-rule t i (λ s. s ≡ at-registrar.Asked) mayRefuse (λ r e. rw e) (λ r. not-asked (r .state)) _ _ (λ r e. (sending-becomes t i r _ e _, (refl, refl)));
+      issue = λ n h. host-rule t i (λ s. s ≡ at-registrar.Asked) mayIssue (λ r e. rw e) (λ r. not-asked (r .state)) _ _ (λ r e. (sending-becomes t i r _ e _, (requestNumber (r .kind), number-is (r .kind) _ refl, (refl, refl))));
+      refuse = λ n. host-rule t i (λ s. s ≡ at-registrar.Asked) mayRefuse (λ r e. rw e) (λ r. not-asked (r .state)) _ _ (λ r e. (sending-becomes t i r _ e _, (requestNumber (r .kind), number-is (r .kind) _ refl, (refl, refl))));
       lapse = host-rule t i (λ s. s ≡ at-registrar.Granted) mayLapse (λ r e. rw e) (λ r. not-granted (r .state)) _ _ (λ r e. (quietly-becomes t i r _ e, (refl, refl)));
       close = host-rule t i MayClose mayClose (λ r. may-close (r .state)) (λ r. not-close (r .state)) _ _ (λ r e. (quietly-becomes t i r _ e, (refl, refl)));
     }

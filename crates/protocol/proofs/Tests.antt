@@ -13,9 +13,10 @@ use Rattle.protocol.specs.declared.TransactionId.{TransactionId}
 use Rattle.protocol.specs.declared.Nonce.{Nonce}
 use Rattle.protocol.specs.declared.Hash.{Hash}
 use Rattle.protocol.specs.Bytes.{sameBytes, sameId, sameNonce, sameHash, isId, isNonce}
-use Rattle.protocol.specs.Message.{isEnrolmentKind, isResponse, responseTo}
+use Rattle.protocol.specs.Message.{isEnrolmentKind, isResponse, responseTo, p10cr, minusOne, requestNumber}
 use Rattle.protocol.specs.Refusals.{Row, pass, lowestRow, stop}
 use Rattle.protocol.specs.Request.{IsRequest}
+use Rattle.protocol.specs.Slots.{NumberIs}
 
 pub true-false : {A : Type 0} → true ≡ false → A
 true-false e = let z : _≡_ {A = ℕ} 0 1 = cc in absurd (omega arith)
@@ -177,3 +178,20 @@ response-kinds P ip cp kup k = by (eqb k 0) (eqb k 2) (eqb k 4) (eqb k 7)
 
 pub is-response : (k : ℕ) → isResponse (responseTo k) ≡ true
 is-response = response-kinds (λ (n : ℕ). isResponse n ≡ true) refl refl refl
+
+-- ## The request number of a kind
+
+number-by : (k n : ℕ) (b : Bool) → eqb k p10cr ≡ b → n ≡ cond b minusOne 0 → NumberIs k n
+number-by k n true p e = inl (eqb-eq k p10cr p, e)
+number-by k n false p e = inr ((λ q. true-false (sym (same-number k p10cr q) ∙ p)), e)
+
+pub number-is : (k n : ℕ) → n ≡ requestNumber k → NumberIs k n
+number-is k n e = number-by k n (eqb k p10cr) refl e
+
+-- no kind but p10cr has another number than 0
+pub number-0 : (k : ℕ) → (k ≡ p10cr → ⊥) → requestNumber k ≡ 0
+number-0 k z = ap (λ (b : Bool). cond b minusOne 0) (other-than k p10cr z _ refl)
+
+pub is-number : (k n : ℕ) → NumberIs k n → n ≡ requestNumber k
+is-number k n (inl g) = g .1 ∙ sym (ap requestNumber (g .0))
+is-number k n (inr g) = g .1 ∙ sym (number-0 k (g .0))

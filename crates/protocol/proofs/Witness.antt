@@ -1,4 +1,4 @@
--- Both witnesses: the premises hold on them, and they end Sure with Confirmed, and Declined with Declined.
+-- The witnesses: the premises hold on them, and they end Sure with Confirmed, by ir and by p10cr, and Declined with Declined.
 use Prim.Native.Nat.{ℕ}
 use mathlib.Core.List.{List, [], _∷_}
 use mathlib.Core.Bool.{Bool, true, false, _||_}
@@ -25,9 +25,9 @@ use Rattle.protocol.specs.EndEntityRows.{endEntityRows}
 use Rattle.protocol.specs.EndEntity.{endEntityStart, endEntityChecked}
 use Rattle.protocol.specs.Run.{Event, End, Issue, step, Start, ToRegistrar, ToEndEntity, World, run, beginning}
 use Rattle.protocol.specs.Agreement.{Issued, Some, SenderIssued, FairEvent, Fair}
-use Rattle.protocol.specs.Witness.{nonce, id, board, irBytes, hash, ipBytes, pkiConfBytes, boardSays, registrarSays, EndsIn, enrols, acceptBytes, declineBytes, Witnesses}
+use Rattle.protocol.specs.Witness.{nonce, id, board, irBytes, hash, ipBytes, pkiConfBytes, boardSays, registrarSays, EndsIn, enrolsBy, enrols, acceptBytes, declineBytes, p10crBytes, cpBytes, acceptP10crBytes, Witnesses}
 use Rattle.protocol.proofs.Tests.{sameBytes-refl, none-some, true-false, some-some}
-use Rattle.protocol.proofs.WitnessReadings.{ReadsAs, irFields, ir-reads, ipFields, ip-reads, pkiConfFields, pkiconf-reads, acceptFields, accept-reads, declineFields, decline-reads}
+use Rattle.protocol.proofs.WitnessReadings.{ReadsAs, irFields, ir-reads, ipFields, ip-reads, pkiConfFields, pkiconf-reads, acceptFields, accept-reads, declineFields, decline-reads, p10crFields, p10cr-reads, cpFields, cp-reads, acceptP10crFields, accept-p10cr-reads}
 use Rattle.protocol.proofs.WitnessRuns.{ReadCall, runBy, run-by, issued-by}
 
 -- ## Tests for "drawn twice"
@@ -85,13 +85,29 @@ one e past s n i = record { verdict = s; id = id-new (e .drawn) past i; nonce = 
 
 -- ## The run
 
-module _ (accept : Bool) (bytes : List ℕ) (f : Fields) (r : ReadsAs bytes f) where
+-- a request and its response
+record Asking : Type 0 where
+  kind : ℕ
+  requestBytes : List ℕ
+  requestFields : Fields
+  request : ReadsAs requestBytes requestFields
+  responseBytes : List ℕ
+  responseFields : Fields
+  response : ReadsAs responseBytes responseFields
+
+abbrev byIr : Asking
+byIr = record { kind = 0; requestBytes = irBytes; requestFields = irFields; request = ir-reads; responseBytes = ipBytes; responseFields = ipFields; response = ip-reads }
+
+abbrev byP10cr : Asking
+byP10cr = record { kind = 4; requestBytes = p10crBytes; requestFields = p10crFields; request = p10cr-reads; responseBytes = cpBytes; responseFields = cpFields; response = cp-reads }
+
+module _ (q : Asking) (accept : Bool) (bytes : List ℕ) (f : Fields) (r : ReadsAs bytes f) where
   abbrev steps : List ReadCall
   steps =
-      record { call = Start board 0 id (nonce 1); fields = irFields; reads = tt }
-      ∷ record { call = ToRegistrar irBytes (record { verdict = Good board; nonce = nonce 2 }); fields = irFields; reads = ir-reads }
-      ∷ record { call = Issue id hash (nonce 3); fields = irFields; reads = tt }
-      ∷ record { call = ToEndEntity 0 ipBytes (record { good = true; accept = accept; hash = hash; nonce = nonce 4 }); fields = ipFields; reads = ip-reads }
+      record { call = Start board (q .kind) id (nonce 1); fields = q .requestFields; reads = tt }
+      ∷ record { call = ToRegistrar (q .requestBytes) (record { verdict = Good board; nonce = nonce 2 }); fields = q .requestFields; reads = q .request }
+      ∷ record { call = Issue id hash (nonce 3); fields = q .requestFields; reads = tt }
+      ∷ record { call = ToEndEntity 0 (q .responseBytes) (record { good = true; accept = accept; hash = hash; nonce = nonce 4 }); fields = q .responseFields; reads = q .response }
       ∷ record { call = ToRegistrar bytes (record { verdict = Good board; nonce = nonce 5 }); fields = f; reads = r }
       ∷ record { call = ToEndEntity 0 pkiConfBytes (record { good = true; accept = accept; hash = hash; nonce = nonce 6 }); fields = pkiConfFields; reads = pkiconf-reads }
       ∷ []
@@ -100,16 +116,16 @@ module _ (accept : Bool) (bytes : List ℕ) (f : Fields) (r : ReadsAs bytes f) w
   end = runBy beginning steps
 
   -- the six events, the last first: what each message carries was issued, and no nonce or id comes twice
-  ends : (b : EnrolmentState) (s : TransactionState) → Fair (end .past) → boardSays end ≡ some b → registrarSays end ≡ some s → EndsIn (enrols accept bytes) b s
-  ends b s q x y =
-      let e : run (enrols accept bytes) ≡ end = run-by steps beginning in
+  ends : (b : EnrolmentState) (s : TransactionState) → Fair (end .past) → boardSays end ≡ some b → registrarSays end ≡ some s → EndsIn (enrolsBy (q .kind) (q .requestBytes) (q .responseBytes) accept bytes) b s
+  ends b s p x y =
+      let e : run (enrolsBy (q .kind) (q .requestBytes) (q .responseBytes) accept bytes) ≡ end = run-by steps beginning in
       record {
-        fair = subst (λ (w : World). Fair (w .past)) (sym e) q;
+        fair = subst (λ (w : World). Fair (w .past)) (sym e) p;
         says = ap boardSays e ∙ x;
         heard = ap registrarSays e ∙ y;
       }
 
-accepted-fair : Fair (end true acceptBytes acceptFields accept-reads .past)
+accepted-fair : Fair (end byIr true acceptBytes acceptFields accept-reads .past)
 unfolding step registrarFields registrarChecked registrarRows lowestRow lookup replace slotOf freeSlot hasFreeSlot put emptyTable registrarIssue endEntityStart endEntityChecked endEntityRows sameBytes silent
 accepted-fair = (
   one _ _ (issued-by pkiConfBytes pkiConfFields pkiconf-reads _ (record { kind = refl; id = refl; senderNonce = refl; recipNonce = refl; status = λ t. true-false (sym t); hash = λ e. absurd (omega arith) }) _ _ (inl (refl, refl))) tt tt,
@@ -130,9 +146,9 @@ accepted-fair = (
 
 accepted-ends : EndsIn (enrols true acceptBytes) at-board.Sure at-registrar.Confirmed
 unfolding boardSays registrarSays step registrarFields registrarChecked registrarRows lowestRow lookup replace slotOf freeSlot hasFreeSlot put emptyTable registrarIssue endEntityStart endEntityChecked endEntityRows sameBytes silent
-accepted-ends = ends true acceptBytes acceptFields accept-reads at-board.Sure at-registrar.Confirmed accepted-fair refl refl
+accepted-ends = ends byIr true acceptBytes acceptFields accept-reads at-board.Sure at-registrar.Confirmed accepted-fair refl refl
 
-declined-fair : Fair (end false declineBytes declineFields decline-reads .past)
+declined-fair : Fair (end byIr false declineBytes declineFields decline-reads .past)
 unfolding step registrarFields registrarChecked registrarRows lowestRow lookup replace slotOf freeSlot hasFreeSlot put emptyTable registrarIssue endEntityStart endEntityChecked endEntityRows sameBytes silent
 declined-fair = (
   one _ _ (issued-by pkiConfBytes pkiConfFields pkiconf-reads _ (record { kind = refl; id = refl; senderNonce = refl; recipNonce = refl; status = λ t. true-false (sym t); hash = λ e. absurd (omega arith) }) _ _ (inl (refl, refl))) tt tt,
@@ -153,7 +169,30 @@ declined-fair = (
 
 declined-ends : EndsIn (enrols false declineBytes) at-board.Declined at-registrar.Declined
 unfolding boardSays registrarSays step registrarFields registrarChecked registrarRows lowestRow lookup replace slotOf freeSlot hasFreeSlot put emptyTable registrarIssue endEntityStart endEntityChecked endEntityRows sameBytes silent
-declined-ends = ends false declineBytes declineFields decline-reads at-board.Declined at-registrar.Declined declined-fair refl refl
+declined-ends = ends byIr false declineBytes declineFields decline-reads at-board.Declined at-registrar.Declined declined-fair refl refl
+
+p10cr-fair : Fair (end byP10cr true acceptP10crBytes acceptP10crFields accept-p10cr-reads .past)
+unfolding step registrarFields registrarChecked registrarRows lowestRow lookup replace slotOf freeSlot hasFreeSlot put emptyTable registrarIssue endEntityStart endEntityChecked endEntityRows sameBytes silent
+p10cr-fair = (
+  one _ _ (issued-by pkiConfBytes pkiConfFields pkiconf-reads _ (record { kind = refl; id = refl; senderNonce = refl; recipNonce = refl; status = λ t. true-false (sym t); hash = λ e. absurd (omega arith) }) _ _ (inl (refl, refl))) tt tt,
+  (
+    one _ _ (issued-by acceptP10crBytes acceptP10crFields accept-p10cr-reads _ (record { kind = refl; id = refl; senderNonce = refl; recipNonce = refl; status = λ t. inr (refl, refl, refl); hash = λ e. refl }) _ _ (inl (refl, refl))) refl tt,
+    (
+      one _ _ (issued-by cpBytes cpFields cp-reads _ (record { kind = refl; id = refl; senderNonce = refl; recipNonce = refl; status = λ t. inl refl; hash = λ e. absurd (omega arith) }) _ _ (inl (refl, refl))) refl tt,
+      (
+        one _ _ tt refl tt,
+        (
+          one _ _ (issued-by p10crBytes p10crFields p10cr-reads _ (record { kind = refl; id = refl; senderNonce = refl; recipNonce = refl; status = λ t. true-false (sym t); hash = λ e. absurd (omega arith) }) _ _ (inl (refl, refl))) tt tt,
+          (one _ _ tt refl refl, tt),
+        ),
+      ),
+    ),
+  ),
+)
+
+p10cr-ends : EndsIn (enrolsBy 4 p10crBytes cpBytes true acceptP10crBytes) at-board.Sure at-registrar.Confirmed
+unfolding boardSays registrarSays step registrarFields registrarChecked registrarRows lowestRow lookup replace slotOf freeSlot hasFreeSlot put emptyTable registrarIssue endEntityStart endEntityChecked endEntityRows sameBytes silent
+p10cr-ends = ends byP10cr true acceptP10crBytes acceptP10crFields accept-p10cr-reads at-board.Sure at-registrar.Confirmed p10cr-fair refl refl
 
 pub witnesses : Witnesses
-witnesses = record { accepted = accepted-ends; declined = declined-ends }
+witnesses = record { accepted = accepted-ends; declined = declined-ends; p10cr = p10cr-ends }

@@ -1,4 +1,4 @@
--- What the reader finds in the witnesses' five messages. Each equation is computed by the reader's definition.
+-- What the reader finds in the witnesses' eight messages. Each equation is computed by the reader's definition.
 use Prim.Native.Nat.{ℕ}
 use mathlib.Core.List.{List, []}
 use mathlib.Core.Bool.{Bool, true, false}
@@ -18,8 +18,8 @@ use Rattle.grammar.specs.Message.{startAt, messageOf}
 use Rattle.message.specs.Read.{lowest, readingOf}
 use Rattle.message.specs.declared.Reading.the-variants as read
 use Rattle.grammar.specs.declared.Message.{Message}
-use Rattle.protocol.specs.Message.{Fields, fieldsOf}
-use Rattle.protocol.specs.Witness.{irBytes, ipBytes, acceptBytes, declineBytes, pkiConfBytes}
+use Rattle.protocol.specs.Message.{minusOne, Fields, fieldsOf}
+use Rattle.protocol.specs.Witness.{irBytes, ipBytes, acceptBytes, declineBytes, pkiConfBytes, p10crBytes, cpBytes, acceptP10crBytes}
 
 -- the bytes read cleanly, and their fields are these
 pub record ReadsAs (bytes : List ℕ) (f : Fields) : Type 0 where
@@ -27,9 +27,9 @@ pub record ReadsAs (bytes : List ℕ) (f : Fields) : Type 0 where
   pub reads : readingOf bytes ≡ read.Clean message
   pub fields : fieldsOf bytes message ≡ f
 
--- a protected message of version 2 for the id: its kind, nonces, entries, status, hash and whether it has a certificate
-abbrev pub fieldsWith : ℕ → ℕ → Option (List ℕ) → ℕ → Option ℕ → List ℕ → Bool → Fields
-fieldsWith k n a e s h c =
+-- a protected message of version 2 for the id: its kind, nonces, entries, number, status, hash and whether it has a certificate
+abbrev pub fieldsWith : ℕ → ℕ → Option (List ℕ) → ℕ → (number : ℕ) → Option ℕ → List ℕ → Bool → Fields
+fieldsWith k n a e q s h c =
     record {
       kind = k;
       version = 2;
@@ -38,7 +38,7 @@ fieldsWith k n a e s h c =
       recipNonce = a;
       protected = true;
       entries = e;
-      request = 0;
+      request = q;
       status = s;
       hash = record { bytes = h };
       hashAlg = false;
@@ -46,22 +46,33 @@ fieldsWith k n a e s h c =
     }
 
 abbrev pub irFields : Fields
-irFields = fieldsWith 0 1 none 1 none [] false
+irFields = fieldsWith 0 1 none 1 0 none [] false
 
 abbrev pub ipFields : Fields
-ipFields = fieldsWith 1 3 (some (replicate 16 1)) 1 (some 0) [] true
+ipFields = fieldsWith 1 3 (some (replicate 16 1)) 1 0 (some 0) [] true
 
 abbrev pub acceptFields : Fields
-acceptFields = fieldsWith 24 4 (some (replicate 16 3)) 1 none (replicate 32 0xAB) false
+acceptFields = fieldsWith 24 4 (some (replicate 16 3)) 1 0 none (replicate 32 0xAB) false
 
 abbrev pub declineFields : Fields
-declineFields = fieldsWith 24 4 (some (replicate 16 3)) 1 (some 2) (replicate 32 0xAB) false
+declineFields = fieldsWith 24 4 (some (replicate 16 3)) 1 0 (some 2) (replicate 32 0xAB) false
 
 abbrev pub pkiConfFields : Fields
-pkiConfFields = fieldsWith 19 5 (some (replicate 16 4)) 0 none [] false
+pkiConfFields = fieldsWith 19 5 (some (replicate 16 4)) 0 0 none [] false
 
--- all five, computed
-all-read : ReadsAs irBytes irFields × ReadsAs ipBytes ipFields × ReadsAs acceptBytes acceptFields × ReadsAs declineBytes declineFields × ReadsAs pkiConfBytes pkiConfFields
+abbrev pub p10crFields : Fields
+p10crFields = fieldsWith 4 1 none 0 0 none [] false
+
+abbrev pub cpFields : Fields
+cpFields = fieldsWith 3 3 (some (replicate 16 1)) 1 minusOne (some 0) [] true
+
+abbrev pub acceptP10crFields : Fields
+acceptP10crFields = fieldsWith 24 4 (some (replicate 16 3)) 1 minusOne none (replicate 32 0xAB) false
+
+-- all eight, computed
+all-read :
+    ReadsAs irBytes irFields × ReadsAs ipBytes ipFields × ReadsAs acceptBytes acceptFields × ReadsAs declineBytes declineFields × ReadsAs pkiConfBytes pkiConfFields
+    × ReadsAs p10crBytes p10crFields × ReadsAs cpBytes cpFields × ReadsAs acceptP10crBytes acceptP10crFields
 unfolding tagOk inside length81 length82 lengthOf headOf booleanOk integerOk bitStringOk arcsOk oidOk contentOk formOk judge
     elementOf eachElement contentAt checkAt check headIn tagAt needOf anyOf maybeOf restOf doneOf enterOf leaveOf contentOf shiftIn
     signed32 valueOf smallIntegerOf moreAt repeat foundOf typedOf oneOf allBy sequenceBy sequenceOf fieldOf typedField anyField
@@ -69,6 +80,9 @@ unfolding tagOk inside length81 length82 lengthOf headOf booleanOk integerOk bit
     choiceOf keyPair maybeKeyPair responseOf certStatusOf entryOf entriesOf atLeastOne requestsOf responsesOf confirmationsOf
     errorOf p10crOf otherOf contentsOf bodyTag bodyOf startAt messageOf lowest readingOf fieldsOf
 all-read = (
+  record { message = _; reads = refl; fields = refl },
+  record { message = _; reads = refl; fields = refl },
+  record { message = _; reads = refl; fields = refl },
   record { message = _; reads = refl; fields = refl },
   record { message = _; reads = refl; fields = refl },
   record { message = _; reads = refl; fields = refl },
@@ -90,3 +104,12 @@ decline-reads = all-read .3
 
 pub pkiconf-reads : ReadsAs pkiConfBytes pkiConfFields
 pkiconf-reads = all-read .4
+
+pub p10cr-reads : ReadsAs p10crBytes p10crFields
+p10cr-reads = all-read .5
+
+pub cp-reads : ReadsAs cpBytes cpFields
+cp-reads = all-read .6
+
+pub accept-p10cr-reads : ReadsAs acceptP10crBytes acceptP10crFields
+accept-p10cr-reads = all-read .7

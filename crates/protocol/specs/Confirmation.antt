@@ -26,7 +26,7 @@ use Rattle.protocol.specs.Refusals.{noFault}
 use Rattle.protocol.specs.Table.{lookup}
 use Rattle.protocol.specs.Registrar.{registrarMessage}
 use Rattle.protocol.specs.MessageRules.{IsRefused}
-use Rattle.protocol.specs.Slots.{FirstAt, Becomes, Sends, ours, bare}
+use Rattle.protocol.specs.Slots.{FirstAt, Becomes, Sends, ours, NumberIs, bare}
 
 -- the 16 bytes of a part that is there
 abbrev pub Sixteen : List ℕ → Span → List ℕ → Type 0
@@ -54,8 +54,8 @@ pub record Matches (t : TransactionTable) (d : RegistrarInput) (bytes : List ℕ
   pub senderNonce : Sixteen bytes (m .header .«sender_nonce») (nonce .bytes)
   pub recipPresent : m .header .«recip_nonce» .start .0 ≢ 0
   pub recipNonce : take (m .header .«recip_nonce» .len) (drop (m .header .«recip_nonce» .start .0) bytes) ≡ r .sent .bytes
-  -- "request number,"
-  pub request : m .body .entry .number ≡ 0
+  -- "request number,": of the transaction's kind
+  pub request : NumberIs (r .kind) (m .body .entry .number)
   -- "certificate hash,"
   pub hash : take (m .body .entry .«cert_hash» .len) (drop (m .body .entry .«cert_hash» .start .0) bytes) ≡ r .hash .bytes
   -- "status [...] all match our rules": none, 0 or 2

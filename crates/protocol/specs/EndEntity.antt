@@ -71,7 +71,7 @@ confirmedEnrolment x accept h n a = record { id = x .id; kind = x .kind; last = 
 -- "0 or 1 gives, by the host's decision, Confirming or Declining, with the host's hash and a certConf order of status 0 or 2"
 abbrev pub confirming : Enrolment → Bool → Hash → FreshNonce → Nonce → EndEntityAnswer
 confirming x accept h n a =
-    record { outcome = outcome.Done; fault = noFault; sends = true; outgoing = certConfOut (x .id) n a (decision accept) h; enrolment = confirmedEnrolment x accept h n a }
+    record { outcome = outcome.Done; fault = noFault; sends = true; outgoing = certConfOut (x .kind) (x .id) n a (decision accept) h; enrolment = confirmedEnrolment x accept h n a }
 
 -- "Asked with a response: status 2 gives Failed"
 abbrev pub responseTaken : Enrolment → EndEntityInput → Fields → EndEntityAnswer

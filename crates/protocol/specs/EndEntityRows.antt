@@ -40,7 +40,7 @@ otherNonce x m = not (isNonce (m .recipNonce) (x .last))
 abbrev pub notOneResponse : Fields → Bool
 notOneResponse m = responds m && not (oneResponse m)
 
--- 16: "certReqId in that one entry not 0"
+-- 16: certReqId in that one entry "not -1 for p10cr, not 0 for the others", by the enrolment's kind
 abbrev pub otherNumber : Enrolment → Fields → Bool
 otherNumber x m = responds m && oneResponse m && not (eqb (m .request) (requestNumber (x .kind)))
 

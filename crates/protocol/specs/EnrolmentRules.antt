@@ -22,7 +22,7 @@ use Rattle.protocol.specs.Message.{responseTo}
 use Rattle.protocol.specs.Refusals.{noFault}
 use Rattle.protocol.specs.Outgoing.{silent}
 use Rattle.protocol.specs.EndEntity.{endEntityMessage, endEntityTimeOut, endEntityStart}
-use Rattle.protocol.specs.Slots.{ours, bare}
+use Rattle.protocol.specs.Slots.{ours, NumberIs, bare}
 use Rattle.protocol.specs.Confirmation.{Sixteen}
 use Rattle.protocol.specs.Request.{IsRequest}
 
@@ -54,11 +54,11 @@ pub record Reports (x : Enrolment) (m : Message) : Type 0 where
   pub status : StatusIs m 2
   pub state : (x .state ≡ Asked) ⊎ (x .state ≡ Confirming) ⊎ (x .state ≡ Declining)
 
--- the response to its request, at Asked: one entry of number 0, status 0, 1 or 2, and a plain certificate unless it is 2
+-- the response to its request, at Asked: one entry of the number of its kind, status 0, 1 or 2, and a plain certificate unless it is 2
 pub record Responds (x : Enrolment) (m : Message) (s : ℕ) : Type 0 where
   pub kind : m .body .kind ≡ responseTo (x .kind)
   pub entries : m .body .entries ≡ 1
-  pub request : m .body .entry .number ≡ 0
+  pub request : NumberIs (x .kind) (m .body .entry .number)
   pub status : StatusIs m s
   pub known : (s ≡ 0) ⊎ (s ≡ 1) ⊎ (s ≡ 2)
   pub state : x .state ≡ Asked
@@ -68,9 +68,9 @@ pub record Responds (x : Enrolment) (m : Message) (s : ℕ) : Type 0 where
 abbrev pub becomes : Enrolment → EnrolmentState → EndEntityAnswer
 becomes x s = record { outcome = outcome.Done; fault = noFault; sends = false; outgoing = silent; enrolment = record { id = x .id; kind = x .kind; last = x .last; taken = x .taken; hash = x .hash; state = s } }
 
--- done, with a certConf of this status for the host's hash, which answers the response's nonce n
-abbrev pub certifies : Enrolment → EndEntityInput → Nonce → EnrolmentState → ℕ → EndEntityAnswer
-certifies x d n s status =
+-- done, with a certConf of this status for the host's hash, which answers the response's nonce n and has its request number q
+abbrev pub certifies : Enrolment → EndEntityInput → Nonce → (number : ℕ) → EnrolmentState → (status : ℕ) → EndEntityAnswer
+certifies x d n q s status =
     record {
       outcome = outcome.Done;
       fault = noFault;
@@ -82,7 +82,7 @@ certifies x d n s status =
             «sender_nonce» = ours (d .nonce);
             «has_recip_nonce» = true;
             «recip_nonce» = n;
-            contents = record { «has_status» = true; status = status; hash = d .hash; failure = NoBit };
+            contents = record { «has_status» = true; status = status; hash = d .hash; failure = NoBit; «has_number» = true; number = q };
           };
       enrolment = record { id = x .id; kind = x .kind; last = ours (d .nonce); taken = n; hash = d .hash; state = s };
     }
@@ -98,8 +98,8 @@ pub record EnrolmentRule (x : Enrolment) (d : EndEntityInput) (bytes : List ℕ)
   pub unsettled : (c : Heard x d bytes m) → Reports x m → (x .state ≡ Confirming) ⊎ (x .state ≡ Declining) → endEntityMessage x d bytes ≡ becomes x Unsettled
   -- "Asked with a response: status 2 gives Failed; 0 or 1 gives, by the host's decision, Confirming or Declining"
   pub refused : (c : Heard x d bytes m) → Responds x m 2 → endEntityMessage x d bytes ≡ becomes x Failed
-  pub accepted : (c : Heard x d bytes m) (s : ℕ) → Responds x m s → s ≢ 2 → d .accept ≡ true → endEntityMessage x d bytes ≡ certifies x d (c .nonce) Confirming 0
-  pub rejected : (c : Heard x d bytes m) (s : ℕ) → Responds x m s → s ≢ 2 → d .accept ≡ false → endEntityMessage x d bytes ≡ certifies x d (c .nonce) Declining 2
+  pub accepted : (c : Heard x d bytes m) (s : ℕ) → Responds x m s → s ≢ 2 → d .accept ≡ true → endEntityMessage x d bytes ≡ certifies x d (c .nonce) (m .body .entry .number) Confirming 0
+  pub rejected : (c : Heard x d bytes m) (s : ℕ) → Responds x m s → s ≢ 2 → d .accept ≡ false → endEntityMessage x d bytes ≡ certifies x d (c .nonce) (m .body .entry .number) Declining 2
 
 -- "Time out: the same. The rest is [...] 31."
 pub record TimeOutRule (x : Enrolment) : Type 0 where

@@ -21,7 +21,7 @@ use Rattle.protocol.specs.Message.{responseTo}
 use Rattle.protocol.specs.Refusals.{noFault}
 use Rattle.protocol.specs.Outgoing.{silent}
 use Rattle.protocol.specs.Table.{lookup}
-use Rattle.protocol.specs.Slots.{Becomes, Sends, SendsNothing, ours}
+use Rattle.protocol.specs.Slots.{Becomes, Sends, SendsNothing, ours, NumberIs}
 use Rattle.protocol.specs.Registrar.{registrarIssue, registrarRefuse, registrarLapse, registrarClose}
 
 -- refused by this number, with no bit and nothing to send, and the table as it was
@@ -34,21 +34,21 @@ pub record HostRule (t : TransactionTable) (i : TransactionId) (Allowed : Transa
   pub done : (r : Transaction) → lookup (t .transactions) i ≡ some r → Allowed (r .state) → Next r a
   pub else : (r : Transaction) → lookup (t .transactions) i ≡ some r → (Allowed (r .state) → ⊥) → a ≡ hostRefusal 31 t
 
--- ip, cp or kup: the id, the fresh nonce, as recipNonce the last board nonce taken, and the status
-abbrev pub responseSent : ℕ → TransactionId → FreshNonce → Nonce → ℕ → Outgoing
-responseSent k i n a s =
+-- ip, cp or kup: the id, the fresh nonce, as recipNonce the last board nonce taken, the status and the request number
+abbrev pub responseSent : ℕ → TransactionId → FreshNonce → Nonce → (status : ℕ) → (number : ℕ) → Outgoing
+responseSent k i n a s q =
     record {
       kind = k;
       id = i;
       «sender_nonce» = ours n;
       «has_recip_nonce» = true;
       «recip_nonce» = a;
-      contents = record { «has_status» = true; status = s; hash = record { bytes = replicate 32 0 }; failure = NoBit };
+      contents = record { «has_status» = true; status = s; hash = record { bytes = replicate 32 0 }; failure = NoBit; «has_number» = true; number = q };
     }
 
--- the complete answer: the transaction r of this id becomes x, and this is sent
-abbrev pub Answering : TransactionTable → TransactionId → Transaction → Transaction → Outgoing → RegistrarAnswer → Type 0
-Answering t i r x o a = Becomes t i r x a × Sends o a
+-- the complete answer: the transaction r of this id becomes x, and this is sent with the request number of its kind
+abbrev pub Answering : TransactionTable → TransactionId → Transaction → Transaction → (ℕ → Outgoing) → RegistrarAnswer → Type 0
+Answering t i r x o a = Becomes t i r x a × ((q : ℕ) × NumberIs (r .kind) q × Sends (o q) a)
 
 -- the complete answer: the transaction r of this id becomes x, and nothing is sent
 abbrev pub Quietly : TransactionTable → TransactionId → Transaction → Transaction → RegistrarAnswer → Type 0

@@ -44,9 +44,16 @@ unpaired = 3
 abbrev pub responseTo : ℕ → ℕ
 responseTo k = cond (eqb k 0) 1 (cond (eqb k 2) 3 (cond (eqb k 4) 3 (cond (eqb k 7) 8 unpaired)))
 
--- the certReqId of a transaction of this kind (refusal 16)
+abbrev pub p10cr : ℕ
+p10cr = 4
+
+-- -1 in four bytes, two's complement, as the reader hands it on
+abbrev pub minusOne : ℕ
+minusOne = 4294967295
+
+-- the certReqId of a transaction of this kind: "-1 for p10cr", "0 for the others" (M-100)
 abbrev pub requestNumber : ℕ → ℕ
-requestNumber k = 0
+requestNumber k = cond (eqb k p10cr) minusOne 0
 
 -- ## Fields
 

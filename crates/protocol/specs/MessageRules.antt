@@ -34,7 +34,7 @@ errorMessage i n a b =
       «sender_nonce» = ours n;
       «has_recip_nonce» = true;
       «recip_nonce» = a;
-      contents = record { «has_status» = true; status = 2; hash = record { bytes = replicate 32 0 }; failure = b };
+      contents = record { «has_status» = true; status = 2; hash = record { bytes = replicate 32 0 }; failure = b; «has_number» = false; number = 0 };
     }
 
 -- "For numbers 6 up in message steps the desk also issues an error order with status 2 and that bit": i and a are the message's

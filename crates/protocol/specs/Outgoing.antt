@@ -10,22 +10,25 @@ use Rattle.protocol.specs.declared.OutgoingContents.{OutgoingContents}
 use Rattle.protocol.specs.declared.Outgoing.{Outgoing}
 use Rattle.protocol.specs.declared.FailureInfo.the-variants.{NoBit}
 use Rattle.protocol.specs.Bytes.{noId, noNonce, noHash, nonceFrom}
-use Rattle.protocol.specs.Message.{certConf, pkiConf, errorKind}
+use Rattle.protocol.specs.Message.{certConf, pkiConf, errorKind, responseTo, requestNumber}
 
 -- ## What only some kinds carry
 
 abbrev pub noContents : OutgoingContents
-noContents = record { «has_status» = false; status = 0; hash = noHash; failure = NoBit }
+noContents = record { «has_status» = false; status = 0; hash = noHash; failure = NoBit; «has_number» = false; number = 0 }
 
 -- Each of these sets a part of the contents and leaves the others.
 abbrev pub withStatus : ℕ → OutgoingContents → OutgoingContents
-withStatus s c = record { «has_status» = true; status = s; hash = c .hash; failure = c .failure }
+withStatus s c = record { «has_status» = true; status = s; hash = c .hash; failure = c .failure; «has_number» = c .«has_number»; number = c .number }
 
 abbrev pub withHash : Hash → OutgoingContents → OutgoingContents
-withHash h c = record { «has_status» = c .«has_status»; status = c .status; hash = h; failure = c .failure }
+withHash h c = record { «has_status» = c .«has_status»; status = c .status; hash = h; failure = c .failure; «has_number» = c .«has_number»; number = c .number }
 
 abbrev pub withFailure : FailureInfo → OutgoingContents → OutgoingContents
-withFailure f c = record { «has_status» = c .«has_status»; status = c .status; hash = c .hash; failure = f }
+withFailure f c = record { «has_status» = c .«has_status»; status = c .status; hash = c .hash; failure = f; «has_number» = c .«has_number»; number = c .number }
+
+abbrev pub withNumber : ℕ → OutgoingContents → OutgoingContents
+withNumber n c = record { «has_status» = c .«has_status»; status = c .status; hash = c .hash; failure = c .failure; «has_number» = true; number = n }
 
 -- ## The messages
 
@@ -41,13 +44,13 @@ requestOut k i n = record { kind = k; id = i; «sender_nonce» = nonceFrom n; «
 abbrev pub answerOut : (kind : ℕ) → TransactionId → FreshNonce → (answered : Nonce) → OutgoingContents → Outgoing
 answerOut k i n a c = record { kind = k; id = i; «sender_nonce» = nonceFrom n; «has_recip_nonce» = true; «recip_nonce» = a; contents = c }
 
--- ip, cp or kup, with its status
-abbrev pub responseOut : (kind : ℕ) → TransactionId → FreshNonce → (answered : Nonce) → (status : ℕ) → Outgoing
-responseOut k i n a s = answerOut k i n a (withStatus s noContents)
+-- ip, cp or kup to a request of this kind, with its number and the status
+abbrev pub responseOut : (request : ℕ) → TransactionId → FreshNonce → (answered : Nonce) → (status : ℕ) → Outgoing
+responseOut k i n a s = answerOut (responseTo k) i n a (withNumber (requestNumber k) (withStatus s noContents))
 
--- certConf, with its status and the certificate's hash
-abbrev pub certConfOut : TransactionId → FreshNonce → (answered : Nonce) → (status : ℕ) → Hash → Outgoing
-certConfOut i n a s h = answerOut certConf i n a (withHash h (withStatus s noContents))
+-- certConf in an enrolment of this kind, with its number, the status and the certificate's hash
+abbrev pub certConfOut : (request : ℕ) → TransactionId → FreshNonce → (answered : Nonce) → (status : ℕ) → Hash → Outgoing
+certConfOut k i n a s h = answerOut certConf i n a (withNumber (requestNumber k) (withHash h (withStatus s noContents)))
 
 -- pkiconf
 abbrev pub pkiConfOut : TransactionId → FreshNonce → (answered : Nonce) → Outgoing

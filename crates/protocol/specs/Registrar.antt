@@ -24,7 +24,7 @@ use Rattle.protocol.specs.declared.TransactionState.the-variants.{Asked,
 use Rattle.protocol.specs.declared.Outcome.the-variants as outcome
 use Rattle.protocol.specs.declared.Verdict.the-variants.{Bad, Good}
 use Rattle.protocol.specs.Bytes.{asId, asNonce, noNonce, noHash, nonceFrom}
-use Rattle.protocol.specs.Message.{Fields, statusOr0, fieldsOf, responseTo}
+use Rattle.protocol.specs.Message.{Fields, statusOr0, fieldsOf}
 use Rattle.protocol.specs.Outgoing.{silent, errorOut, pkiConfOut, responseOut}
 use Rattle.protocol.specs.Table.{freeSlot, put, slotOf, replace, lookup, freeTransaction}
 use Rattle.protocol.specs.States.{isConfirmed, isGranted, settledState, mayIssue, mayRefuse, mayLapse, mayClose}
@@ -136,7 +136,7 @@ responded r s n h = record { id = r .id; board = r .board; kind = r .kind; taken
 -- "order ip, cp or kup": the response to the transaction's request
 abbrev pub respond : TransactionTable → TransactionId → Transaction → TransactionState → (status : ℕ) → FreshNonce → Hash → RegistrarAnswer
 respond t i r s status n h =
-    doneSending (slotOf (t .transactions) i) (replace (t .transactions) i (responded r s (nonceFrom n) h)) (responseOut (responseTo (r .kind)) i n (r .taken) status)
+    doneSending (slotOf (t .transactions) i) (replace (t .transactions) i (responded r s (nonceFrom n) h)) (responseOut (r .kind) i n (r .taken) status)
 
 -- "issue, Asked to Granted, with hash and nonce, ... with status 0"
 unfoldable pub registrarIssue : TransactionTable → TransactionId → FreshNonce → Hash → RegistrarAnswer

@@ -71,7 +71,7 @@ confirmsOtherNonce r m = confirms m && not (hasSent (r .state) && isNonce (m .re
 abbrev pub notOneEntry : Fields → Bool
 notOneEntry m = hasEntries m && not (oneEntry m)
 
--- 16: "certReqId in that one entry not 0": the number goes by the transaction's kind
+-- 16: certReqId in that one entry "not -1 for p10cr, not 0 for the others", by the transaction's kind: of a certConf the one held, of a request its own
 abbrev pub otherRequest : Transaction → Fields → Bool
 otherRequest r m = hasEntries m && oneEntry m && not (eqb (m .request) (requestNumber (cond (confirms m) (r .kind) (m .kind))))
 

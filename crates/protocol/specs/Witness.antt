@@ -1,4 +1,5 @@
--- Two lists of calls, built from message bytes, on which demand 3 is not idle: one ends Sure with Confirmed, one Declined with Declined.
+-- Three lists of calls, built from message bytes, on which demand 3 is not idle: one ends Sure with Confirmed, one Declined with Declined,
+-- and one by p10cr, with the request number -1, ends as the first.
 use Prim.Native.Nat.{ℕ}
 use mathlib.Core.List.{List, [], _∷_, _++_}
 use mathlib.Core.Bool.{Bool, true, false}
@@ -56,30 +57,49 @@ irBytes =
     ∷ 0x30 ∷ 0x42
     ∷ (head 1 ++ (0xA0 ∷ 0x09 ∷ 0x30 ∷ 0x07 ∷ 0x30 ∷ 0x05 ∷ 0x30 ∷ 0x03 ∷ 0x02 ∷ 0x01 ∷ 0x00 ∷ protection))
 
--- one response: number 0, status 0, and a certificate
-abbrev responseBody : List ℕ → List ℕ
-responseBody s =
-    0xA1 ∷ 0x14 ∷ 0x30 ∷ 0x12 ∷ 0x30 ∷ 0x10 ∷ 0x30 ∷ 0x0E
-    ∷ 0x02 ∷ 0x01 ∷ 0x00
+-- p10cr with one element
+abbrev pub p10crBytes : List ℕ
+p10crBytes =
+    0x30 ∷ 0x4E
+    ∷ 0x30 ∷ 0x42
+    ∷ (head 1 ++ (0xA4 ∷ 0x02 ∷ 0x30 ∷ 0x00 ∷ protection))
+
+-- one response: the number n, status 0, and a certificate
+abbrev responseBody : (tag n : ℕ) → List ℕ → List ℕ
+responseBody tag n s =
+    tag ∷ 0x14 ∷ 0x30 ∷ 0x12 ∷ 0x30 ∷ 0x10 ∷ 0x30 ∷ 0x0E
+    ∷ 0x02 ∷ 0x01 ∷ n
     ∷ 0x30 ∷ 0x03 ∷ 0x02 ∷ 0x01 ∷ 0x00
     ∷ 0x30 ∷ 0x04 ∷ 0xA0 ∷ 0x02 ∷ 0x30 ∷ 0x00
     ∷ s
 
 -- ip
 abbrev pub ipBytes : List ℕ
-ipBytes = 0x30 ∷ 0x74 ∷ (answerHead 3 1 ++ responseBody protection)
+ipBytes = 0x30 ∷ 0x74 ∷ (answerHead 3 1 ++ responseBody 0xA1 0x00 protection)
 
--- certConf with one entry: the hash and number 0, and no status info
-abbrev pub acceptBytes : List ℕ
-acceptBytes =
+-- cp of number -1
+abbrev pub cpBytes : List ℕ
+cpBytes = 0x30 ∷ 0x74 ∷ (answerHead 3 1 ++ responseBody 0xA3 0xFF protection)
+
+-- certConf with one entry: the hash and the number n, and no status info
+abbrev acceptance : ℕ → List ℕ
+acceptance n =
     0x30 ∷ 0x81 ∷ 0x89
-    ∷ (answerHead 4 3 ++ (0xB8 ∷ 0x29 ∷ 0x30 ∷ 0x27 ∷ 0x30 ∷ 0x25 ∷ 0x04 ∷ 0x20 ∷ (replicate 32 0xAB ++ (0x02 ∷ 0x01 ∷ 0x00 ∷ protection))))
+    ∷ (answerHead 4 3 ++ (0xB8 ∷ 0x29 ∷ 0x30 ∷ 0x27 ∷ 0x30 ∷ 0x25 ∷ 0x04 ∷ 0x20 ∷ (replicate 32 0xAB ++ (0x02 ∷ 0x01 ∷ n ∷ protection))))
+
+-- of number 0
+abbrev pub acceptBytes : List ℕ
+acceptBytes = acceptance 0x00
+
+-- of number -1
+abbrev pub acceptP10crBytes : List ℕ
+acceptP10crBytes = acceptance 0xFF
 
 -- status info: status 2
 abbrev rejection : List ℕ → List ℕ
 rejection s = 0x30 ∷ 0x03 ∷ 0x02 ∷ 0x01 ∷ 0x02 ∷ s
 
--- the same with status 2
+-- the same of number 0 with status 2
 abbrev pub declineBytes : List ℕ
 declineBytes =
     0x30 ∷ 0x81 ∷ 0x8E
@@ -91,16 +111,20 @@ pkiConfBytes = 0x30 ∷ 0x62 ∷ (answerHead 5 4 ++ (0xB3 ∷ 0x02 ∷ 0x05 ∷ 
 
 -- ## The calls
 
--- one enrolment through: start, ir, issue, ip, certConf, pkiconf; the host accepts the certificate or not
-abbrev pub enrols : Bool → (certConfBytes : List ℕ) → List Call
-enrols accept certConfBytes =
-    Start board 0 id (nonce 1)
-    ∷ ToRegistrar irBytes (record { verdict = Good board; nonce = nonce 2 })
+-- one enrolment through: start, request, issue, response, certConf, pkiconf; the host accepts the certificate or not
+abbrev pub enrolsBy : (kind : ℕ) → (requestBytes responseBytes : List ℕ) → Bool → (certConfBytes : List ℕ) → List Call
+enrolsBy kind requestBytes responseBytes accept certConfBytes =
+    Start board kind id (nonce 1)
+    ∷ ToRegistrar requestBytes (record { verdict = Good board; nonce = nonce 2 })
     ∷ Issue id hash (nonce 3)
-    ∷ ToEndEntity 0 ipBytes (record { good = true; accept = accept; hash = hash; nonce = nonce 4 })
+    ∷ ToEndEntity 0 responseBytes (record { good = true; accept = accept; hash = hash; nonce = nonce 4 })
     ∷ ToRegistrar certConfBytes (record { verdict = Good board; nonce = nonce 5 })
     ∷ ToEndEntity 0 pkiConfBytes (record { good = true; accept = accept; hash = hash; nonce = nonce 6 })
     ∷ []
+
+-- by ir
+abbrev pub enrols : Bool → (certConfBytes : List ℕ) → List Call
+enrols = enrolsBy 0 irBytes ipBytes
 
 -- what the first enrolment says, and what the registrar says of the id
 unfoldable pub boardSays : World → Option EnrolmentState
@@ -118,3 +142,4 @@ pub record EndsIn (calls : List Call) (b : EnrolmentState) (r : TransactionState
 pub record Witnesses : Type 0 where
   pub accepted : EndsIn (enrols true acceptBytes) at-board.Sure at-registrar.Confirmed
   pub declined : EndsIn (enrols false declineBytes) at-board.Declined at-registrar.Declined
+  pub p10cr : EndsIn (enrolsBy 4 p10crBytes cpBytes true acceptP10crBytes) at-board.Sure at-registrar.Confirmed

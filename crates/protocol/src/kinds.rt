@@ -2,6 +2,9 @@
 ghost use mathlib.Core.Path.{_≡_};
 ghost use Rattle.protocol.specs.Message.{isEnrolmentKind, isOpeningKind, isStartingKind, responseTo, requestNumber};
 
+// The request that carries no certReqId.
+const P10CR: u8 = 4;
+
 // The kinds that are no request and no response.
 pub const PKI_CONF: u8 = 19;
 
@@ -61,9 +64,12 @@ pub fn response_to(request: u8) -> u8
     UNPAIRED
 }
 
+// -1 in four bytes, two's complement.
+const MINUS_ONE: u32 = 4294967295;
+
 // The certReqId of a transaction of this kind.
 pub fn request_number(kind: u8) -> u32
     ensures { λ r. ⌜ r ≡ requestNumber kind ⌝ }
 {
-    0
+    if kind == P10CR { MINUS_ONE } else { 0 }
 }

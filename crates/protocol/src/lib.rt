@@ -194,12 +194,14 @@ pub enum FailureInfo {
     Bit(u8),
 }
 
-// What only some kinds carry: a status where the flag says so, a hash in a certConf, a bit in an error.
+// What only some kinds carry: a status and a certReqId where their flags say so, a hash in a certConf, a bit in an error.
 pub struct OutgoingContents {
     pub has_status: bool,
     pub status: u32,
     pub hash: Hash,
     pub failure: FailureInfo,
+    pub has_number: bool,
+    pub number: u32,
 }
 
 // A message to be sent (01's order). The recipNonce is there where its flag says so.

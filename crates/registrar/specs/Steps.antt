@@ -21,7 +21,7 @@ use Rattle.protocol.specs.declared.RegistrarInput.{RegistrarInput}
 use Rattle.protocol.specs.declared.RegistrarAnswer.{RegistrarAnswer}
 use Rattle.protocol.specs.declared.Outcome.the-variants as outcome
 use Rattle.protocol.specs.Bytes.{asId, asNonce, noNonce, noHash, nonceFrom}
-use Rattle.protocol.specs.Message.{Fields, fieldsOf, isOpeningKind, certConf, responseTo}
+use Rattle.protocol.specs.Message.{Fields, fieldsOf, isOpeningKind, certConf}
 use Rattle.protocol.specs.Outgoing.{silent, errorOut, pkiConfOut, responseOut}
 use Rattle.protocol.specs.Table.{capacity, freeTransaction, lookup, freeSlot, put}
 use Rattle.protocol.specs.States.{isGranted, settledState}
@@ -81,7 +81,7 @@ takenAt t p r k s d i a =
 
 -- a response of this status for the transaction r in the slot p, which then is in the state s
 abbrev pub responseAnswer : TransactionTable → (p : ℕ) → (r : Transaction) → TransactionId → TransactionState → (status : ℕ) → FreshNonce → Hash → RegistrarAnswer
-responseAnswer t p r i s status n h = doneSending p (set (t .transactions) p (responded r s (nonceFrom n) h)) (responseOut (responseTo (r .kind)) i n (r .taken) status)
+responseAnswer t p r i s status n h = doneSending p (set (t .transactions) p (responded r s (nonceFrom n) h)) (responseOut (r .kind) i n (r .taken) status)
 
 -- a message that the rows 3 to 7 do not refuse, by its id i: f is what the table has for it
 abbrev pub headed : TransactionTable → RegistrarInput → (i : TransactionId) → Fields → RegistrarAnswer

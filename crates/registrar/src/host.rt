@@ -18,7 +18,6 @@ use protocol::Transaction;
 use protocol::TransactionId;
 use protocol::TransactionState;
 use protocol::TransactionTable;
-use protocol::kinds::response_to;
 ghost use mathlib.Core.Path.{_≡_};
 ghost use lib.ListN.{set};
 ghost use Rattle.protocol.specs.Registrar.{settled, responded, doneQuietly, registrarIssue, registrarRefuse, registrarLapse, registrarClose};
@@ -78,7 +77,7 @@ fn respond(
     done_sending(
         slot,
         next,
-        outgoing::response(response_to(held.kind), id, nonce, held.taken, status),
+        outgoing::response(held.kind, id, nonce, held.taken, status),
     )
 }
 

@@ -19,8 +19,9 @@ use std::env;
 use std::process::ExitCode;
 use world::World;
 
-/// It shows every trick of the line and three different ends.
-const SEED: u64 = 232;
+/// It shows every trick of the line and three different ends, that of the p10cr
+/// being Sure.
+const SEED: u64 = 24;
 
 fn main() -> ExitCode {
     let seed = match env::args().nth(1).map(|seed| seed.parse()) {

@@ -1,7 +1,7 @@
 //! "The board's states": one enrolment of a board.
 
 use super::incoming::Incoming;
-use super::{is_request, plain, refusal, refuse_if, response_to};
+use super::{is_request, plain, refusal, refuse_if, request_number, response_to};
 use super::{ACCEPTED, CERT_CONF, ERROR, GRANTED_WITH_MODS, PKICONF, REJECTION};
 use crate::ends::{
     CertHash, Decision, EndEntityAnswer, FreshNonce, Nonce, Outcome, Outgoing, TransactionId,
@@ -76,7 +76,7 @@ impl EndEntity {
         decision: Decision,
         nonce: FreshNonce,
     ) -> Result<Option<Outgoing>, Refusal> {
-        message.check_one_entry()?;
+        message.check_one_entry(self.enrolment.kind)?;
         let granted = match message.status {
             Some(ACCEPTED | GRANTED_WITH_MODS) => true,
             Some(REJECTION) => false,
@@ -97,6 +97,7 @@ impl EndEntity {
         let cert_conf = Outgoing {
             status: Some(status as u32),
             hash: Some(decision.hash),
+            number: Some(request_number(self.enrolment.kind)),
             ..plain(CERT_CONF, self.enrolment.id, nonce, answered)
         };
         self.enrolment = Enrolment {

@@ -1,6 +1,6 @@
 //! A message that has come in, as far as both ends look at it: rows 1 to 6.
 
-use super::{refusal, refuse_if};
+use super::{refusal, refuse_if, request_number};
 use crate::ends::{Nonce, TransactionId};
 use crate::independent;
 use crate::refusal::Refusal;
@@ -62,10 +62,10 @@ impl<'a> Incoming<'a> {
         self.recip_nonce == Some(&nonce.0)
     }
 
-    /// Rows 15 and 16.
-    pub fn check_one_entry(&self) -> Result<(), Refusal> {
+    /// Rows 15 and 16, for a record of this kind.
+    pub fn check_one_entry(&self, kind: u8) -> Result<(), Refusal> {
         refuse_if(self.entries != 1, 15)?;
-        refuse_if(self.number != 0, 16)
+        refuse_if(self.number != request_number(kind), 16)
     }
 }
 

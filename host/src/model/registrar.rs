@@ -1,7 +1,7 @@
 //! "The desk's states": the registrar and its table.
 
 use super::incoming::Incoming;
-use super::{is_request, plain, refusal, refuse_if, response_to};
+use super::{is_request, plain, refusal, refuse_if, request_number, response_to};
 use super::{ACCEPTED, CERT_CONF, ERROR, P10CR, PKICONF, REJECTION};
 use crate::ends::{
     Board, CertHash, FreshNonce, Nonce, Outcome, Outgoing, RegistrarAnswer, Slot, TransactionId,
@@ -76,7 +76,7 @@ impl Registrar {
         refuse_if(self.find(message.id).is_some(), 10)?;
         let slot = self.free_slot().ok_or(refusal(11))?;
         if message.kind != P10CR {
-            message.check_one_entry()?;
+            message.check_one_entry(message.kind)?;
         }
         self.transactions[slot] = Transaction {
             id: message.id,
@@ -107,7 +107,7 @@ impl Registrar {
         refuse_if(board != transaction.board, 13)?;
         let answers = sent(transaction).is_some_and(|sent| message.answers(sent));
         refuse_if(!answers, 14)?;
-        message.check_one_entry()?;
+        message.check_one_entry(transaction.kind)?;
         refuse_if(message.hash_alg && message.version == 2, 17)?;
         refuse_if(status != ACCEPTED && status != REJECTION, 18)?;
         let names = hash(transaction).is_some_and(|hash| message.cert_hash == hash.0);
@@ -273,6 +273,7 @@ fn respond(transaction: &mut Transaction, nonce: FreshNonce, status: i32) -> Out
     let kind = response_to(transaction.kind);
     let response = Outgoing {
         status: Some(status as u32),
+        number: Some(request_number(transaction.kind)),
         ..plain(kind, transaction.id, nonce, Some(transaction.taken))
     };
     transaction.sent = response.sender_nonce;

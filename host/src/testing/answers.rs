@@ -20,6 +20,7 @@ pub fn plain(
         status: None,
         hash: None,
         failure: None,
+        number: None,
     }
 }
 

@@ -38,9 +38,19 @@ pub enum Certificate {
     Encrypted,
 }
 
+/// certReqId: a response and a certConf are told theirs, the host's own request
+/// has 0.
+fn number_of(outgoing: &Outgoing) -> i64 {
+    match outgoing.kind {
+        1 | 3 | 8 | 24 => outgoing.number.expect("it carries a certReqId").into(),
+        _ => 0,
+    }
+}
+
 impl Parts {
     /// The message that this is to become, in version 2. A response brings a
-    /// certificate unless its status is 2.
+    /// certificate unless its status is 2. Fails for a response or a certConf
+    /// without a certReqId.
     pub fn of(outgoing: &Outgoing) -> Parts {
         let status = outgoing.status.map(|status| i64::from(status as i32));
         Parts {
@@ -52,7 +62,7 @@ impl Parts {
             sender_nonce: Some(outgoing.sender_nonce.0.to_vec()),
             recip_nonce: outgoing.recip_nonce.map(|nonce| nonce.0.to_vec()),
             entries: 1,
-            number: 0,
+            number: number_of(outgoing),
             status,
             hash: outgoing.hash.map_or(Vec::new(), |hash| hash.0.to_vec()),
             hash_alg: false,
@@ -127,5 +137,43 @@ impl Parts {
             parts.push(Node::explicit(0, algorithm(true)));
         }
         Node::sequence(parts)
+    }
+}
+
+#[cfg(test)]
+mod tests {
+    use super::*;
+    use crate::ends::{FreshNonce, Nonce, TransactionId};
+    use crate::testing::answers::plain;
+
+    fn of(kind: u8, number: Option<i32>) -> Parts {
+        let (id, nonce) = (TransactionId::default(), FreshNonce([0; 16]));
+        Parts::of(&Outgoing {
+            number,
+            ..plain(kind, id, nonce, Nonce::default())
+        })
+    }
+
+    #[test]
+    fn cert_req_id_is_the_one_given() {
+        for kind in [1, 3, 8, 24] {
+            assert_eq!(of(kind, Some(-1)).number, -1);
+            assert_eq!(of(kind, Some(0)).number, 0);
+        }
+        for kind in [0, 2, 4, 7, 19, 23] {
+            assert_eq!(of(kind, None).number, 0);
+        }
+    }
+
+    #[test]
+    #[should_panic(expected = "it carries a certReqId")]
+    fn response_without_cert_req_id() {
+        of(3, None);
+    }
+
+    #[test]
+    #[should_panic(expected = "it carries a certReqId")]
+    fn cert_conf_without_cert_req_id() {
+        of(24, None);
     }
 }

@@ -10,6 +10,8 @@ pub mod der;
 pub mod ends;
 pub mod exchange;
 pub mod messages;
+pub mod openssl;
 pub mod papers;
 pub mod random;
+pub mod received;
 pub mod sha256;

@@ -11,6 +11,8 @@ use duskstall_host::{
 
 /// A call that changes a state in bytes and puts its answer into others.
 pub trait Call {
+    /// The message, if it is a call that takes one.
+    fn message(&self) -> Option<&[u8]>;
     fn on_library(&self, state: &mut [u8], answer: &mut [u8]) -> u64;
     fn on_model(&self, state: &mut [u8], answer: &mut [u8]) -> u64;
 }
@@ -42,6 +44,13 @@ pub enum RegistrarCall {
 }
 
 impl Call for RegistrarCall {
+    fn message(&self) -> Option<&[u8]> {
+        match self {
+            RegistrarCall::Message { message, .. } => Some(message),
+            _ => None,
+        }
+    }
+
     fn on_library(&self, state: &mut [u8], answer: &mut [u8]) -> u64 {
         use RegistrarCall::*;
         match self {
@@ -122,6 +131,13 @@ pub struct EndEntityMessage {
 }
 
 impl Call for EndEntityCall {
+    fn message(&self) -> Option<&[u8]> {
+        match self {
+            EndEntityCall::Message(given) => Some(&given.message),
+            _ => None,
+        }
+    }
+
     fn on_library(&self, state: &mut [u8], answer: &mut [u8]) -> u64 {
         use EndEntityCall::*;
         match self {

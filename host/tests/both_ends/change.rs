@@ -19,6 +19,8 @@ pub fn changed(mut parts: Parts, random: &mut Random, pool: &Pool) -> Parts {
 
 fn change_one(parts: &mut Parts, random: &mut Random, pool: &Pool) {
     const NUMBERS: [i64; 9] = [0, 1, 2, 3, 4, -1, 6, 0x7FFF_FFFF, -0x8000_0000];
+    // The last is the pattern of -1 as a number of its own, in five bytes.
+    const CERT_REQ_IDS: [i64; 8] = [0, -1, 1, -2, 4, 0x7FFF_FFFF, -0x8000_0000, 0xFFFF_FFFF];
     match random.below(14) {
         0 => parts.kind = random.below(27) as u8,
         1 => parts.version = *random.pick(&NUMBERS),
@@ -28,7 +30,7 @@ fn change_one(parts: &mut Parts, random: &mut Random, pool: &Pool) {
         5 => parts.sender_nonce = other(random, &pool.nonces),
         6 | 7 => parts.recip_nonce = other(random, &pool.nonces),
         8 => parts.entries = random.below(4),
-        9 => parts.number = *random.pick(&NUMBERS),
+        9 => parts.number = *random.pick(&CERT_REQ_IDS),
         10 => parts.status = Some(*random.pick(&NUMBERS)).filter(|_| !random.once_in(6)),
         11 => parts.hash = other(random, &pool.hashes).unwrap_or_default(),
         12 => parts.hash_alg = true,

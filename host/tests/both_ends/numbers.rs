@@ -45,6 +45,7 @@ fn message(kind: u8, sender_nonce: Nonce, to: Option<Nonce>) -> Vec<u8> {
         status: Some(0),
         hash: Some(HASH),
         failure: None,
+        number: Some(0),
     };
     Parts::of(&outgoing).encode()
 }

@@ -77,7 +77,8 @@ fn outgoing(outgoing: Option<Outgoing>, bytes: &mut Vec<u8>) {
     bytes.push(outgoing.is_some().into());
     let Some(sent) = outgoing else {
         bytes.extend([0; 87]);
-        return bytes.push(NO_BIT);
+        bytes.push(NO_BIT);
+        return bytes.extend([0; 5]);
     };
     let Nonce(recip_nonce) = sent.recip_nonce.unwrap_or_default();
     let CertHash(hash) = sent.hash.unwrap_or_default();
@@ -90,4 +91,6 @@ fn outgoing(outgoing: Option<Outgoing>, bytes: &mut Vec<u8>) {
     bytes.extend(sent.status.unwrap_or(0).to_be_bytes());
     bytes.extend(hash);
     bytes.push(sent.failure.unwrap_or(NO_BIT));
+    bytes.push(sent.number.is_some().into());
+    bytes.extend(sent.number.unwrap_or(0).to_be_bytes());
 }

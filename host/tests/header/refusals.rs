@@ -36,7 +36,7 @@ fn message(random: &mut Random) -> Vec<u8> {
         sender_nonce: maybe_sixteen(random),
         recip_nonce: maybe_sixteen(random),
         entries: 1 + usize::from(random.once_in(8)),
-        number: random.once_in(8).into(),
+        number: *random.pick(&[0, 0, -1]),
         status: *random.pick(&[Some(0), Some(2), Some(0), Some(3)]),
         hash: hash(random).0.to_vec(),
         hash_alg: random.once_in(8),
@@ -57,7 +57,7 @@ fn registrar(random: &mut Random) -> Registrar {
         let transaction = Transaction {
             id,
             board: Board(1),
-            kind: 0,
+            kind: *random.pick(&[0, 4]),
             taken: Nonce(sixteen(random)),
             sent: Nonce(sixteen(random)),
             hash: hash(random),
@@ -71,7 +71,7 @@ fn registrar(random: &mut Random) -> Registrar {
 fn end_entity(random: &mut Random) -> EndEntity {
     let enrolment = Enrolment {
         id: TransactionId(sixteen(random)),
-        kind: 0,
+        kind: *random.pick(&[0, 4]),
         last: Nonce(sixteen(random)),
         taken: Nonce(sixteen(random)),
         hash: hash(random),

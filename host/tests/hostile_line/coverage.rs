@@ -1,16 +1,53 @@
 //! Which moves and refusals of which calls were met, and which there are.
 
+use duskstall_host::{independent, Outcome};
 use std::collections::{BTreeMap, BTreeSet};
+
+/// The request that carries no certReqId.
+const P10CR: u8 = 4;
 
 /// Counts by a call and how it ended, as "certConf: refused 12".
 #[derive(Default)]
 pub struct Coverage {
-    pub counts: BTreeMap<String, usize>,
+    counts: BTreeMap<String, usize>,
+    /// Of these the moves of p10cr transactions and enrolments.
+    p10cr: BTreeMap<String, usize>,
+    /// Calls refused by 16, as "certConf: certReqId 0".
+    numbers: BTreeMap<String, usize>,
 }
 
 impl Coverage {
     pub fn note(&mut self, label: String) {
         *self.counts.entry(label).or_default() += 1;
+    }
+
+    /// A call that was not refused, about a record of this kind.
+    pub fn note_move(&mut self, kind: u8, label: String) {
+        if kind == P10CR {
+            *self.p10cr.entry(label.clone()).or_default() += 1;
+        }
+        self.note(label);
+    }
+
+    /// A call that was handed this message.
+    pub fn note_number(&mut self, what: &str, outcome: Outcome, message: &[u8]) {
+        if outcome
+            .refusal()
+            .is_some_and(|refusal| refusal.number == 16)
+        {
+            let reading = independent::read(message).expect("row 2 comes first");
+            let label = format!("{what}: certReqId {}", reading.number as i32);
+            *self.numbers.entry(label).or_default() += 1;
+        }
+    }
+
+    pub fn moves_of_p10cr(&self) -> BTreeSet<String> {
+        self.p10cr.keys().cloned().collect()
+    }
+
+    /// Whether it was refused by 16, as in "certConf: certReqId 0".
+    pub fn refused_number(&self, label: &str) -> bool {
+        self.numbers.contains_key(label)
     }
 
     pub fn met(&self) -> BTreeSet<String> {
@@ -19,17 +56,21 @@ impl Coverage {
 
     /// Prints one line for each call.
     pub fn report(&self) {
-        let mut lines: BTreeMap<&str, Vec<String>> = BTreeMap::new();
-        for (label, count) in &self.counts {
-            let (call, end) = label.split_once(": ").unwrap_or((label, ""));
-            lines
-                .entry(call)
-                .or_default()
-                .push(format!("{end} {count}"));
-        }
-        for (call, ends) in lines {
-            println!("  {call}: {}", ends.join(", "));
-        }
+        print("", &self.counts);
+        print("of p10cr, ", &self.p10cr);
+        print("refused 16, ", &self.numbers);
+    }
+}
+
+fn print(of: &str, counts: &BTreeMap<String, usize>) {
+    let mut lines: BTreeMap<&str, Vec<String>> = BTreeMap::new();
+    for (label, count) in counts {
+        let (call, end) = label.split_once(": ").unwrap_or((label, ""));
+        let line = lines.entry(call).or_default();
+        line.push(format!("{end} {count}"));
+    }
+    for (call, ends) in lines {
+        println!("  {of}{call}: {}", ends.join(", "));
     }
 }
 
@@ -137,9 +178,23 @@ pub fn whole() -> BTreeSet<String> {
     let refusals = REFUSALS
         .iter()
         .flat_map(|(call, rows)| rows.iter().map(move |row| format!("{call}: refused {row}")));
-    let moves = MOVES.iter().map(|label| label.to_string());
-    refusals.chain(moves).collect()
+    refusals.chain(moves()).collect()
 }
+
+/// The moves among it.
+pub fn moves() -> BTreeSet<String> {
+    MOVES.iter().map(|label| label.to_string()).collect()
+}
+
+/// A message with the certReqId of a p10cr enrolment at another, and the other
+/// way round; a request is its own record, and a p10cr has no certReqId.
+pub const WRONG_NUMBERS: [&str; 5] = [
+    "request: certReqId -1",
+    "certConf: certReqId -1",
+    "certConf: certReqId 0",
+    "board response: certReqId -1",
+    "board response: certReqId 0",
+];
 
 /// What can be met outside the premise only.
 pub fn outside() -> BTreeSet<String> {

@@ -15,10 +15,48 @@ pub fn hash(random: &mut Random) -> CertHash {
     CertHash([random.below(3) as u8; 32])
 }
 
+/// The certReqId that a record of this kind takes, seldom that of the others.
+fn number(kind: u8, random: &mut Random) -> i64 {
+    let is_p10cr = kind == 4;
+    match is_p10cr != random.once_in(8) {
+        true => -1,
+        false => 0,
+    }
+}
+
 /// A message of values that the line has seen or can guess, mostly one that
 /// would fit a transaction or an enrolment.
 pub fn invent(world: &World, random: &mut Random) -> Parts {
-    let mut parts = Parts {
+    let mut parts = guess(world, random);
+    let transactions: Vec<_> = world.registrar.transactions().collect();
+    match random.below(4) {
+        0 => {
+            parts.kind = *random.pick(&[0, 2, 4, 7]);
+            parts.recip_nonce = None;
+        }
+        1 if !transactions.is_empty() => {
+            let (_, transaction) = random.pick(&transactions);
+            parts.kind = 24;
+            parts.id = Some(transaction.id.0.to_vec());
+            parts.recip_nonce = Some(transaction.sent.0.to_vec());
+            parts.hash = transaction.hash.0.to_vec();
+            parts.number = number(transaction.kind, random);
+        }
+        2 => {
+            let enrolment = random.pick(&world.enrolments).end.enrolment();
+            parts.kind = *random.pick(&[1, 3, 8, 19, 19, 23]);
+            parts.id = Some(enrolment.id.0.to_vec());
+            parts.recip_nonce = Some(enrolment.last.0.to_vec());
+            parts.number = number(enrolment.kind, random);
+        }
+        _ => {}
+    }
+    parts
+}
+
+/// A message of any kind, for nothing in particular.
+fn guess(world: &World, random: &mut Random) -> Parts {
+    Parts {
         kind: random.below(27) as u8,
         version: 2 + random.below(2) as i64,
         protection_alg: true,
@@ -32,36 +70,14 @@ pub fn invent(world: &World, random: &mut Random) -> Parts {
         hash: hash(random).0.to_vec(),
         hash_alg: false,
         certificate: Certificate::Plain,
-    };
-    let transactions: Vec<_> = world.registrar.transactions().collect();
-    match random.below(4) {
-        0 => {
-            parts.kind = *random.pick(&[0, 2, 4, 7]);
-            parts.recip_nonce = None;
-        }
-        1 if !transactions.is_empty() => {
-            let (_, transaction) = random.pick(&transactions);
-            parts.kind = 24;
-            parts.id = Some(transaction.id.0.to_vec());
-            parts.recip_nonce = Some(transaction.sent.0.to_vec());
-            parts.hash = transaction.hash.0.to_vec();
-        }
-        2 => {
-            let enrolment = random.pick(&world.enrolments).end.enrolment();
-            parts.kind = *random.pick(&[1, 3, 8, 19, 19, 23]);
-            parts.id = Some(enrolment.id.0.to_vec());
-            parts.recip_nonce = Some(enrolment.last.0.to_vec());
-        }
-        _ => {}
     }
-    parts
 }
 
 /// Changes one part of a message.
 pub fn alter(parts: &mut Parts, world: &World, random: &mut Random) {
     let nonce = any_number(world.nonces, random).to_vec();
     let other = [None, Some(vec![0; 15]), Some(nonce.clone()), Some(nonce)];
-    match random.below(13) {
+    match random.below(14) {
         0 => parts.version = *random.pick(&[1, 4]),
         1 => parts.protection_alg = false,
         2 => parts.protection = false,
@@ -71,11 +87,11 @@ pub fn alter(parts: &mut Parts, world: &World, random: &mut Random) {
         4 => parts.sender_nonce = random.pick(&other).clone(),
         5 => parts.recip_nonce = random.pick(&other).clone(),
         6 => parts.entries = *random.pick(&[0, 2]),
-        7 => parts.number = *random.pick(&[1, -1]),
-        8 => parts.status = *random.pick(&[None, Some(0), Some(1), Some(2), Some(3)]),
-        9 => parts.hash = hash(random).0.to_vec(),
-        10 => parts.hash_alg = true,
-        11 => parts.certificate = *random.pick(&[Certificate::Nothing, Certificate::Encrypted]),
+        7 | 8 => parts.number = *random.pick(&[0, 1, -1]),
+        9 => parts.status = *random.pick(&[None, Some(0), Some(1), Some(2), Some(3)]),
+        10 => parts.hash = hash(random).0.to_vec(),
+        11 => parts.hash_alg = true,
+        12 => parts.certificate = *random.pick(&[Certificate::Nothing, Certificate::Encrypted]),
         _ => parts.kind = random.below(27) as u8,
     }
 }

@@ -63,7 +63,7 @@ impl Line {
         if world.enrolments.is_empty()
             || (next < self.starts && world.enrolments.len() < ENROLMENTS)
         {
-            let kind = *random.pick(&[0, 0, 2, 4, 7, 1, 24]);
+            let kind = *random.pick(&[0, 0, 2, 4, 4, 7, 1, 24]);
             let board = Board(random.below(BOARDS) as u16);
             return world.start(board, kind, coverage);
         }

@@ -60,9 +60,10 @@ impl World {
             Ok(_) => "other kind",
         };
         let nonce = self.nonce();
-        self.at_registrar(what, coverage, |registrar| {
+        let outcome = self.at_registrar(what, coverage, |registrar| {
             registrar.message(message, verdict, nonce)
         });
+        coverage.note_number(what, outcome, message);
     }
 
     pub fn issue(&mut self, id: TransactionId, hash: CertHash, coverage: &mut Coverage) {
@@ -103,15 +104,18 @@ impl World {
         self.note_sent(Sender::Registrar, answer.outgoing);
         let slot = answer.slot;
         assert!(others(&before, slot).eq(others(&after, slot)));
-        let (from, to) = (state_at(&before, slot), state_at(&after, slot));
-        coverage.note(match answer.outcome {
-            Outcome::Done => format!("{what}: {from:?} to {to:?}"),
+        let (from, to) = (record_at(&before, slot), record_at(&after, slot));
+        // A free slot has no kind: before a request, and after a close.
+        let kind = from.kind.max(to.kind);
+        let (from, to) = (from.state, to.state);
+        match answer.outcome {
+            Outcome::Done => coverage.note_move(kind, format!("{what}: {from:?} to {to:?}")),
             Outcome::Again => {
                 assert_eq!(before, after);
-                format!("{what}: again at {to:?}")
+                coverage.note_move(kind, format!("{what}: again at {to:?}"));
             }
-            Outcome::Refused(refusal) => refused(what, refusal, true),
-        });
+            Outcome::Refused(refusal) => coverage.note(refused(what, refusal, true)),
+        }
         for (_, transaction) in after {
             if transaction.state == TransactionState::Confirmed {
                 self.history.note_confirmed(transaction.id);
@@ -131,7 +135,7 @@ impl World {
                 self.history.note_start(id);
                 self.note_sent(Sender::Board(board), Some(request));
                 let state = end.enrolment().state;
-                coverage.note(format!("board start: to {state:?}"));
+                coverage.note_move(kind, format!("board start: to {state:?}"));
                 self.enrolments.push(BoardEnrolment {
                     board,
                     end,
@@ -160,25 +164,19 @@ impl World {
             enrolled.answered = cert_conf.recip_nonce;
         }
         let reading = independent::read(message);
-        let kind = reading.map(|reading| reading.kind).ok();
-        let what = match (kind, before.kind) {
-            (None, _) => "board unread",
-            (Some(19), _) => "board pkiconf",
-            (Some(23), _) => "board error",
-            (Some(1), 0) | (Some(3), 2 | 4) | (Some(8), 7) => "board response",
-            _ => "board other kind",
-        };
-        coverage.note(match (answer.outcome, reading) {
+        let what = at_board(reading.map(|reading| reading.kind).ok(), before.kind);
+        coverage.note_number(what, answer.outcome, message);
+        match (answer.outcome, reading) {
             (Outcome::Refused(refusal), _) => {
                 assert!(before == after && answer.outgoing.is_none());
-                refused(what, refusal, false)
+                coverage.note(refused(what, refusal, false));
             }
             (_, Ok(reading)) if what == "board response" => {
-                let status = reading.status;
-                format!("{what} {status}: {:?} to {:?}", before.state, after.state)
+                let what = format!("{what} {}", reading.status);
+                coverage.note_move(before.kind, moved(&what, before.state, after.state));
             }
-            _ => moved(what, before.state, after.state),
-        });
+            _ => coverage.note_move(before.kind, moved(what, before.state, after.state)),
+        }
         let sender = Sender::Board(enrolled.board);
         self.note_sent(sender, answer.outgoing);
     }
@@ -190,13 +188,25 @@ impl World {
         let answer = enrolled.end.time_out();
         let after = enrolled.end.enrolment();
         assert_eq!(answer.outgoing, None);
-        coverage.note(match answer.outcome {
+        let what = "board time out";
+        match answer.outcome {
             Outcome::Refused(refusal) => {
                 assert_eq!(before, after);
-                refused("board time out", refusal, false)
+                coverage.note(refused(what, refusal, false));
             }
-            _ => moved("board time out", before.state, after.state),
-        });
+            _ => coverage.note_move(before.kind, moved(what, before.state, after.state)),
+        }
+    }
+}
+
+/// What a message of this kind is to an enrolment of that kind.
+fn at_board(kind: Option<u8>, request: u8) -> &'static str {
+    match (kind, request) {
+        (None, _) => "board unread",
+        (Some(19), _) => "board pkiconf",
+        (Some(23), _) => "board error",
+        (Some(1), 0) | (Some(3), 2 | 4) | (Some(8), 7) => "board response",
+        _ => "board other kind",
     }
 }
 
@@ -223,9 +233,8 @@ fn others(slots: &Slots, but: Option<Slot>) -> impl Iterator<Item = &(Slot, Tran
     slots.iter().filter(move |(slot, _)| Some(*slot) != but)
 }
 
-fn state_at(slots: &Slots, at: Option<Slot>) -> TransactionState {
-    slots
-        .iter()
-        .find(|(slot, _)| Some(*slot) == at)
-        .map_or(TransactionState::Free, |(_, transaction)| transaction.state)
+/// What this slot holds; a free one holds nothing.
+fn record_at(slots: &Slots, at: Option<Slot>) -> Transaction {
+    let found = slots.iter().find(|(slot, _)| Some(*slot) == at);
+    found.map_or(Transaction::default(), |(_, transaction)| *transaction)
 }

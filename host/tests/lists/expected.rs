@@ -1,4 +1,5 @@
-//! The responses that the lists expect, and the ids and nonces in their messages.
+//! The responses and request numbers that the lists expect, and the ids and
+//! nonces in their messages.
 
 use duskstall_host::testing::answers::plain;
 use duskstall_host::testing::exchange::Parts;
@@ -17,6 +18,14 @@ fn sixteen(part: &Option<Vec<u8>>) -> [u8; 16] {
     bytes.try_into().expect("the lists leave its length")
 }
 
+/// The certReqId of an enrolment by a request of this kind.
+pub fn number_of(request: u8) -> i32 {
+    match request {
+        4 => -1,
+        _ => 0,
+    }
+}
+
 pub fn response(
     request: u8,
     id: TransactionId,
@@ -31,6 +40,7 @@ pub fn response(
     };
     Outgoing {
         status: Some(status),
+        number: Some(number_of(request)),
         ..plain(kind, id, nonce, taken)
     }
 }

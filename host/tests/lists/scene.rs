@@ -2,7 +2,7 @@
 //! asserts the whole answer and the state after it; what it returns is the
 //! message that was sent, for the line to do as it likes with.
 
-use super::expected::{id_in, nonce_in, response};
+use super::expected::{id_in, nonce_in, number_of, response};
 use duskstall_host::testing::answers::{
     board_done, board_refused, error, plain, registrar_done, registrar_refused,
 };
@@ -59,8 +59,13 @@ impl<E: Ends> Scene<E> {
 
     /// The next board starts an ir with this id.
     pub fn start(&mut self, id: TransactionId) -> Parts {
+        self.start_by(0, id)
+    }
+
+    /// The next board starts with a request of this kind.
+    pub fn start_by(&mut self, kind: u8, id: TransactionId) -> Parts {
         let nonce = self.draw();
-        self.start_with(0, id, nonce)
+        self.start_with(kind, id, nonce)
     }
 
     pub fn start_with(&mut self, kind: u8, id: TransactionId, nonce: FreshNonce) -> Parts {
@@ -95,12 +100,13 @@ impl<E: Ends> Scene<E> {
         decision: Decision,
         nonce: FreshNonce,
     ) -> Parts {
-        let id = self.boards[board].enrolment().id;
+        let before = self.boards[board].enrolment();
         let answer = self.boards[board].message(&response.encode(), true, decision, nonce);
         let sent = Outgoing {
             status: Some(if decision.accept { 0 } else { 2 }),
             hash: Some(decision.hash),
-            ..plain(24, id, nonce, nonce_in(&response.sender_nonce))
+            number: Some(number_of(before.kind)),
+            ..plain(24, before.id, nonce, nonce_in(&response.sender_nonce))
         };
         assert_eq!(answer, board_done(Some(sent)));
         let state = match decision.accept {
@@ -122,8 +128,24 @@ impl<E: Ends> Scene<E> {
     pub fn board_refuses(&mut self, board: usize, message: &Parts, number: u8) {
         let before = self.boards[board].clone();
         let answer = self.hand(board, message);
-        let bit = if number == 14 { 13 } else { 2 };
-        assert_eq!(answer, board_refused(number, Some(bit)));
+        let bit = match number {
+            14 => Some(13),
+            21 => None,
+            _ => Some(2),
+        };
+        assert_eq!(answer, board_refused(number, bit));
+        assert!(self.boards[board] == before);
+    }
+
+    /// A board cannot read a message, and its record stays.
+    pub fn board_cannot_read(&mut self, board: usize, message: &Parts) {
+        let before = self.boards[board].clone();
+        let answer = self.hand(board, message);
+        assert_eq!(
+            answer.outcome.refusal().map(|refusal| refusal.number),
+            Some(2)
+        );
+        assert_eq!(answer.outgoing, None);
         assert!(self.boards[board] == before);
     }
 
@@ -262,6 +284,19 @@ impl<E: Ends> Scene<E> {
         assert_eq!(answer, registrar_refused(number, Some(bit), Some(sent)));
         assert!(self.registrar == before);
         Parts::of(&sent)
+    }
+
+    /// A message cannot be read, so no error message can answer it, and the table
+    /// stays.
+    pub fn cannot_read(&mut self, message: &Parts) {
+        let before = self.registrar.clone();
+        let answer = self.deliver(message, good(0));
+        assert_eq!(
+            answer.outcome.refusal().map(|refusal| refusal.number),
+            Some(2)
+        );
+        assert_eq!(answer.outgoing, None);
+        assert!(self.registrar == before);
     }
 
     fn deliver(&mut self, message: &Parts, verdict: Verdict) -> RegistrarAnswer {

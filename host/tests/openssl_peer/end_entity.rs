@@ -2,8 +2,9 @@
 //! and the nonce of OpenSSL's request and is handed the nonce of its certConf,
 //! so that it stands where OpenSSL's client stood.
 
-use super::exchange::{Exchange, Message};
+use super::exchange::Exchange;
 use duskstall_host::testing::answers::{board_done, board_refused};
+use duskstall_host::testing::received::Received;
 use duskstall_host::{CertHash, Decision, EndEntity, EnrolmentState, FreshNonce};
 
 /// Handed in where nothing is sent.
@@ -16,7 +17,7 @@ const UNUSED: Decision = Decision {
 };
 
 /// The end entity sends what OpenSSL's client sent.
-fn start(request: &Message) -> EndEntity {
+fn start(request: &Received) -> EndEntity {
     let started = EndEntity::start(request.reading.kind, request.id(), request.drawn_nonce());
     let (board, sent) = started.expect("a request opens an enrolment");
     assert_eq!(sent, request.as_outgoing());
@@ -29,7 +30,7 @@ fn says_now(board: &EndEntity, state: EnrolmentState) {
 }
 
 /// Refused with nothing sent, and the enrolment stays.
-fn refuse(board: &mut EndEntity, message: &Message, good: bool, number: u8, bit: u8) {
+fn refuse(board: &mut EndEntity, message: &Received, good: bool, number: u8, bit: u8) {
     let before = board.clone();
     let answer = board.message(&message.bytes, good, UNUSED, OTHER);
     assert_eq!(answer, board_refused(number, Some(bit)));
@@ -37,7 +38,7 @@ fn refuse(board: &mut EndEntity, message: &Message, good: bool, number: u8, bit:
 }
 
 /// A copy that answers another nonce is refused, by a good verdict, too.
-fn refuse_altered(board: &mut EndEntity, message: &Message) {
+fn refuse_altered(board: &mut EndEntity, message: &Received) {
     let altered = message.altered(message.reading.recip_nonce);
     refuse(board, &altered, false, 7, 1);
     refuse(board, &altered, true, 14, 13);
@@ -63,17 +64,6 @@ pub fn is_sure(exchange: &Exchange) {
     refuse(&mut board, pkiconf, true, 20, 2);
 }
 
-/// A cp that answers a p10cr has certReqId -1 (RFC 9810), and 01 asks for 0 of
-/// all kinds until M-100.
-pub fn refuses_by_16(exchange: &Exchange) {
-    let [request, response, ..] = exchange.enrolment();
-    let mut board = start(request);
-    assert_eq!(response.reading.number as i32, -1);
-    refuse_altered(&mut board, response);
-    refuse(&mut board, response, true, 16, 2);
-    says_now(&board, EnrolmentState::Asked);
-}
-
 /// What an end entity says of each response of any transaction, 0 for done and
 /// else the refusal's number, and the state it ends with; 32 alone where there
 /// is no such start. Each response is met with the nonce of the next request.
@@ -84,7 +74,7 @@ pub fn says(exchange: &Exchange) -> (Vec<u8>, Option<EnrolmentState>) {
         Ok((board, _)) => board,
         Err(refusal) => return (vec![refusal.number], None),
     };
-    let nonces = exchange.requests[1..].iter().map(Message::drawn_nonce);
+    let nonces = exchange.requests[1..].iter().map(Received::drawn_nonce);
     let mut said = Vec::new();
     for (response, nonce) in exchange.responses.iter().zip(nonces.chain([OTHER])) {
         let hash = response.issued().unwrap_or_default();

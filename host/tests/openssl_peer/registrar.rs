@@ -2,8 +2,9 @@
 //! OpenSSL's server drew, so that what the registrar gives to send can be held
 //! to what that server sent.
 
-use super::exchange::{Exchange, Message};
+use super::exchange::Exchange;
 use duskstall_host::testing::answers::{error, registrar_done, registrar_refused};
+use duskstall_host::testing::received::Received;
 use duskstall_host::{
     Board, FreshNonce, Outcome, Registrar, RegistrarAnswer, Slot, Transaction, TransactionState,
     Verdict,
@@ -33,7 +34,7 @@ fn grant(exchange: &Exchange) -> Registrar {
     registrar
 }
 
-fn asked(request: &Message) -> Transaction {
+fn asked(request: &Received) -> Transaction {
     Transaction {
         id: request.id(),
         board: BOARD,
@@ -61,7 +62,7 @@ fn holds(registrar: &Registrar, transaction: Transaction) {
 }
 
 /// Refused with an error message, and the table stays.
-fn refuse(registrar: &mut Registrar, message: &Message, verdict: Verdict, number: u8, bit: u8) {
+fn refuse(registrar: &mut Registrar, message: &Received, verdict: Verdict, number: u8, bit: u8) {
     let before = registrar.clone();
     let answer = registrar.message(&message.bytes, verdict, OTHER);
     let sent = error(message.id(), OTHER, message.sender_nonce(), bit);
@@ -97,20 +98,6 @@ pub fn confirms(exchange: &Exchange) {
     let answer = registrar.message(&cert_conf.bytes, GOOD, pkiconf.drawn_nonce());
     assert_eq!(answer, again);
     holds(&registrar, confirmed);
-}
-
-/// A p10cr is taken, but not its certConf: RFC 9810 gives certReqId -1 there,
-/// and 01 asks for 0 of all kinds until M-100. An altered hash (19) comes later
-/// in the table.
-pub fn refuses_by_16(exchange: &Exchange) {
-    let mut registrar = grant(exchange);
-    let [_, _, cert_conf, _] = exchange.enrolment();
-    assert_eq!(cert_conf.reading.number as i32, -1);
-    refuse(&mut registrar, cert_conf, GOOD, 16, 2);
-    let altered = cert_conf.altered(cert_conf.reading.cert_hash);
-    refuse(&mut registrar, &altered, Verdict::Bad, 7, 1);
-    refuse(&mut registrar, &altered, GOOD, 16, 2);
-    holds(&registrar, granted(exchange));
 }
 
 /// What the registrar says of each request of any transaction, 0 for done and

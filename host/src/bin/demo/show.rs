@@ -74,12 +74,16 @@ fn parts(bytes: &[u8], reading: &Reading) -> String {
         .map(|(name, part)| format!("{name} {}+{}", part.start, part.len))
         .collect();
     let content = |part: Span| short(&bytes[part.start..][..part.len]);
+    let number = match reading.entries {
+        1 => format!(" certReqId {}", reading.number as i32),
+        _ => String::new(),
+    };
     let status = match reading.has_status {
         true => format!(" status {}", reading.status as i32),
         false => String::new(),
     };
     format!(
-        "{}{status}, {} bytes, id {}, nonce {}, {}",
+        "{}{number}{status}, {} bytes, id {}, nonce {}, {}",
         kind(reading.kind),
         bytes.len(),
         content(reading.transaction_id),

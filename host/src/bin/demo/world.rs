@@ -14,7 +14,7 @@ use std::collections::BTreeMap;
 use std::fmt;
 
 /// The request of each board, and whether its host accepts the certificate.
-const BOARDS: [(u8, bool); 3] = [(0, true), (2, true), (7, false)];
+const BOARDS: [(u8, bool); 3] = [(0, true), (4, true), (7, false)];
 
 /// How many steps of the line a board's host waits, and how often it sends its
 /// last message again before it gives up.

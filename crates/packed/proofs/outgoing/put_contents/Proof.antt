@@ -21,12 +21,20 @@ put-contents-spec =
     (λ c κs. search needs)
     (λ c κs. search needs)
     (λ c. search needs)
+    (λ c κs. search needs)
+    (λ c. search needs)
+    (λ c κs. search needs)
+    (λ c. search needs)
     (λ c.
-    let failure = c .before .before in
+    let number = c .before .before in
+    let has-number = number .before .before .before .before in
+    let failure = has-number .before .before .before .before in
     let hash = failure .before .before .before .before .before in
     let status = hash .before .before .before .before in
     let has-status = status .before .before .before .before in
     next (has-status .put-flag .ensures) (omega arith) (
     next (status .put-4 .ensures) (omega arith) (
     next (hash .put-32 .ensures) (omega arith) (
-    rw (failure .before .failure-number .ensures) at (failure .put-1 .ensures))))))
+    next (rw (failure .before .failure-number .ensures) at (failure .put-1 .ensures)) (omega arith) (
+    next (has-number .put-flag2 .ensures) (omega arith) (
+    number .put-42 .ensures)))))))

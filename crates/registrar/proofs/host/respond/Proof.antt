@@ -9,5 +9,4 @@ respond-spec = tie.close (tie.spec
     (λ c κs. search tests)
     (λ c κs. search tests)
     (λ c κs. search tests)
-    (λ c κs. search tests)
-    (λ c. search (tests, c .done-sending .ensures, c .before .response .ensures, c .before .before .response-to .ensures, c .before .before .before .with-at .ensures, c .before .before .before .before .responded .ensures, c .before .before .before .before .before .nonce .ensures)))
+    (λ c. search (tests, c .done-sending .ensures, c .before .response .ensures, c .before .before .with-at .ensures, c .before .before .before .responded .ensures, c .before .before .before .before .nonce .ensures)))

@@ -1,0 +1,75 @@
+//! Messages of another implementation, with what the library reads in them.
+
+use super::sha256::sha256;
+use crate::{compiled, independent};
+use crate::{CertHash, FreshNonce, Nonce, Outgoing, Reading, Span, TransactionId};
+
+/// A message and its reading by the library.
+pub struct Received {
+    pub bytes: Vec<u8>,
+    pub reading: Reading,
+}
+
+impl Received {
+    /// Both readers have to take it, and to find the same in it.
+    pub fn read(bytes: Vec<u8>) -> Received {
+        let reading = compiled::read(&bytes).expect("the message reads clean");
+        assert_eq!(independent::read(&bytes), Ok(reading));
+        Received { bytes, reading }
+    }
+
+    /// The bytes of a part of it; none if it is absent.
+    pub fn part(&self, span: Span) -> &[u8] {
+        &self.bytes[span.start..][..span.len]
+    }
+
+    fn sixteen(&self, span: Span) -> [u8; 16] {
+        self.part(span).try_into().expect("it has 16 bytes")
+    }
+
+    pub fn id(&self) -> TransactionId {
+        TransactionId(self.sixteen(self.reading.transaction_id))
+    }
+
+    pub fn sender_nonce(&self) -> Nonce {
+        Nonce(self.sixteen(self.reading.sender_nonce))
+    }
+
+    /// The same, as its sender drew it: for an end of ours in the sender's place.
+    pub fn drawn_nonce(&self) -> FreshNonce {
+        FreshNonce(self.sixteen(self.reading.sender_nonce))
+    }
+
+    /// The hash of the plain certificate in a response, if there is one.
+    pub fn issued(&self) -> Option<CertHash> {
+        let certificate = self.part(self.reading.certificate);
+        (!certificate.is_empty()).then(|| CertHash(sha256(certificate)))
+    }
+
+    /// What an end of ours has to send where the other implementation sent this
+    /// message. In a certConf no status counts as 0 (01, "issued").
+    pub fn as_outgoing(&self) -> Outgoing {
+        let reading = &self.reading;
+        let answers = reading.recip_nonce.start > 0;
+        let has_status = reading.has_status || reading.kind == 24;
+        let has_number = matches!(reading.kind, 1 | 3 | 8 | 24);
+        let hash = self.part(reading.cert_hash);
+        Outgoing {
+            kind: reading.kind,
+            id: self.id(),
+            sender_nonce: self.sender_nonce(),
+            recip_nonce: answers.then(|| Nonce(self.sixteen(reading.recip_nonce))),
+            status: has_status.then_some(reading.status),
+            hash: hash.try_into().ok().map(CertHash),
+            failure: None,
+            number: has_number.then_some(reading.number as i32),
+        }
+    }
+
+    /// A copy with the last byte of a part changed.
+    pub fn altered(&self, part: Span) -> Received {
+        let mut bytes = self.bytes.clone();
+        bytes[part.start + part.len - 1] ^= 1;
+        Received::read(bytes)
+    }
+}
