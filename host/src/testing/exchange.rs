@@ -3,6 +3,7 @@
 
 use super::der::Node;
 use super::messages::{self, algorithm, name};
+use super::random::Random;
 use crate::ends::Outgoing;
 
 /// What a message is made of. Every field may be anything; what its kind has
@@ -36,6 +37,15 @@ pub enum Certificate {
     Nothing,
     Plain,
     Encrypted,
+}
+
+/// The certReqId that a record of this kind takes, seldom that of the others.
+pub fn some_number(random: &mut Random, kind: u8) -> i64 {
+    let is_p10cr = kind == 4;
+    match is_p10cr != random.once_in(8) {
+        true => -1,
+        false => 0,
+    }
 }
 
 /// certReqId: a response and a certConf are told theirs, the host's own request

@@ -17,6 +17,20 @@ const START: [u32; 8] = [
 
 /// The hash of these bytes.
 pub fn sha256(bytes: &[u8]) -> [u8; 32] {
+    let mut hash = START;
+    for block in padded(bytes).chunks(64) {
+        add_block(&mut hash, block);
+    }
+    let mut out = [0; 32];
+    for (place, word) in out.chunks_mut(4).zip(hash) {
+        place.copy_from_slice(&word.to_be_bytes());
+    }
+    out
+}
+
+/// Whole blocks of 64 bytes, for SHA-1 too: a bit that is set, zeros, and the
+/// length in bits.
+pub fn padded(bytes: &[u8]) -> Vec<u8> {
     let mut padded = bytes.to_vec();
     padded.push(0x80);
     padded.resize(padded.len().next_multiple_of(64), 0);
@@ -25,15 +39,7 @@ pub fn sha256(bytes: &[u8]) -> [u8; 32] {
     }
     let end = padded.len() - 8;
     padded[end..].copy_from_slice(&(8 * bytes.len() as u64).to_be_bytes());
-    let mut hash = START;
-    for block in padded.chunks(64) {
-        add_block(&mut hash, block);
-    }
-    let mut out = [0; 32];
-    for (place, word) in out.chunks_mut(4).zip(hash) {
-        place.copy_from_slice(&word.to_be_bytes());
-    }
-    out
+    padded
 }
 
 fn add_block(hash: &mut [u32; 8], block: &[u8]) {

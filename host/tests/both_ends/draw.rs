@@ -5,7 +5,7 @@ use super::calls::{EndEntityCall, EndEntityMessage, RegistrarCall};
 use super::change::{changed, damaged};
 use super::pool::Pool;
 use super::tally::P10CR;
-use duskstall_host::testing::exchange::{Certificate, Parts};
+use duskstall_host::testing::exchange::{some_number, Certificate, Parts};
 use duskstall_host::testing::random::Random;
 use duskstall_host::{
     Board, Enrolment, Transaction, TransactionState, ENROLMENT_BYTES, ENROLMENT_STATES, SLOTS,
@@ -206,7 +206,7 @@ fn message_to_registrar(random: &mut Random, pool: &Pool, about: &Transaction) -
             recip_nonce: Some(about.sent.0.to_vec()),
             status: *random.pick(&[None, Some(0), Some(2)]),
             hash: about.hash.0.to_vec(),
-            number: number(random, about.kind),
+            number: some_number(random, about.kind),
             ..plain()
         }
     };
@@ -232,19 +232,10 @@ fn message_to_end_entity(random: &mut Random, pool: &Pool, enrolment: &[u8]) -> 
             23 => 2,
             _ => random.below(3) as i64,
         }),
-        number: number(random, about.kind),
+        number: some_number(random, about.kind),
         ..plain()
     };
     damaged(changed(parts, random, pool), random)
-}
-
-/// The certReqId that a record of this kind takes, seldom that of the others.
-fn number(random: &mut Random, kind: u8) -> i64 {
-    let is_p10cr = kind == P10CR;
-    match is_p10cr != random.once_in(8) {
-        true => -1,
-        false => 0,
-    }
 }
 
 /// A sound message in which the rest is to be filled in.

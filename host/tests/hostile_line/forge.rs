@@ -1,7 +1,7 @@
 //! Messages that the line makes up, alters and breaks.
 
 use super::world::World;
-use duskstall_host::testing::exchange::{Certificate, Parts};
+use duskstall_host::testing::exchange::{some_number, Certificate, Parts};
 use duskstall_host::testing::random::{self, Random};
 use duskstall_host::{CertHash, MESSAGE_LIMIT};
 
@@ -13,15 +13,6 @@ pub fn any_number(drawn: u128, random: &mut Random) -> [u8; 16] {
 /// One of a few hashes, so that certificates of two boards have the same.
 pub fn hash(random: &mut Random) -> CertHash {
     CertHash([random.below(3) as u8; 32])
-}
-
-/// The certReqId that a record of this kind takes, seldom that of the others.
-fn number(kind: u8, random: &mut Random) -> i64 {
-    let is_p10cr = kind == 4;
-    match is_p10cr != random.once_in(8) {
-        true => -1,
-        false => 0,
-    }
 }
 
 /// A message of values that the line has seen or can guess, mostly one that
@@ -40,14 +31,14 @@ pub fn invent(world: &World, random: &mut Random) -> Parts {
             parts.id = Some(transaction.id.0.to_vec());
             parts.recip_nonce = Some(transaction.sent.0.to_vec());
             parts.hash = transaction.hash.0.to_vec();
-            parts.number = number(transaction.kind, random);
+            parts.number = some_number(random, transaction.kind);
         }
         2 => {
             let enrolment = random.pick(&world.enrolments).end.enrolment();
             parts.kind = *random.pick(&[1, 3, 8, 19, 19, 23]);
             parts.id = Some(enrolment.id.0.to_vec());
             parts.recip_nonce = Some(enrolment.last.0.to_vec());
-            parts.number = number(enrolment.kind, random);
+            parts.number = some_number(random, enrolment.kind);
         }
         _ => {}
     }

@@ -1,18 +1,14 @@
 //! SHA-1 (FIPS 180-4), which OpenSSL's mock server protects with: no option of
 //! it chooses another MAC than HMAC-SHA1.
 
+use duskstall_host::testing::sha256::padded;
+
 const START: [u32; 5] = [0x67452301, 0xefcdab89, 0x98badcfe, 0x10325476, 0xc3d2e1f0];
 
 /// The hash of these bytes.
 pub fn sha1(bytes: &[u8]) -> [u8; 20] {
-    let mut padded = bytes.to_vec();
-    padded.push(0x80);
-    while padded.len() % 64 != 56 {
-        padded.push(0);
-    }
-    padded.extend((8 * bytes.len() as u64).to_be_bytes());
     let mut hash = START;
-    for block in padded.chunks(64) {
+    for block in padded(bytes).chunks(64) {
         add_block(&mut hash, block);
     }
     let mut out = [0; 20];
