@@ -122,7 +122,8 @@ static void request(struct writer *w)
 static void cert_req_id(struct writer *w, const uint8_t *outgoing)
 {
     assert(outgoing[DUSKSTALL_OUTGOING_HAS_CERT_REQ_ID]);
-    integer(w, (int32_t)duskstall_number(outgoing + DUSKSTALL_OUTGOING_CERT_REQ_ID, DUSKSTALL_CERT_REQ_ID_BYTES));
+    const uint8_t *number = outgoing + DUSKSTALL_OUTGOING_CERT_REQ_ID;
+    integer(w, duskstall_signed(duskstall_number(number, DUSKSTALL_CERT_REQ_ID_BYTES)));
 }
 
 /* CertRepMessage with one response, which brings a certificate unless it is a rejection */

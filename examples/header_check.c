@@ -282,9 +282,9 @@ static void verdicts_and_decisions(void)
 /* What is to be sent carries a certReqId, and this one. */
 static void carries(int number, const uint8_t *outgoing, const char *what)
 {
-    int32_t found = (int32_t)duskstall_number(outgoing + DUSKSTALL_OUTGOING_CERT_REQ_ID, DUSKSTALL_CERT_REQ_ID_BYTES);
+    const uint8_t *found = outgoing + DUSKSTALL_OUTGOING_CERT_REQ_ID;
     expect(1, outgoing[DUSKSTALL_OUTGOING_HAS_CERT_REQ_ID], what);
-    expect((uint64_t)number, (uint64_t)found, what);
+    expect((uint64_t)number, (uint64_t)duskstall_signed(duskstall_number(found, DUSKSTALL_CERT_REQ_ID_BYTES)), what);
 }
 
 /* The response to a request of this kind. */
@@ -318,6 +318,15 @@ static void cert_conf_carries(uint8_t kind, uint8_t response_kind, int number)
         if (tried == number)
             carries(number, duskstall_end_entity_outgoing(l.bytes[ANSWER]), "certReqId of a certConf");
     }
+}
+
+/* On both sides of 0 and of the highest number. */
+static void signed_numbers(void)
+{
+    expect(0, (uint64_t)duskstall_signed(0), "0");
+    expect((uint64_t)-1, (uint64_t)duskstall_signed(0xFFFFFFFF), "-1");
+    expect(INT32_MAX, (uint64_t)duskstall_signed(0x7FFFFFFF), "the highest");
+    expect((uint64_t)INT32_MIN, (uint64_t)duskstall_signed(0x80000000), "the lowest");
 }
 
 /* -1 in an enrolment by p10cr, and 0 in every other. */
@@ -386,6 +395,7 @@ int main(void)
     all_steps();
     kinds();
     verdicts_and_decisions();
+    signed_numbers();
     cert_req_ids();
     limits();
     sizes();

@@ -358,7 +358,7 @@ enum duskstall_outgoing_place {
     DUSKSTALL_OUTGOING_FAILURE = DUSKSTALL_OUTGOING_HASH + DUSKSTALL_HASH_BYTES,
     /* 1 in a response and a certConf */
     DUSKSTALL_OUTGOING_HAS_CERT_REQ_ID = DUSKSTALL_OUTGOING_FAILURE + 1,
-    /* 4, two's complement: 0, or -1 in an enrolment by p10cr; signed it is (int32_t)duskstall_number(place, 4) */
+    /* 4, two's complement (duskstall_signed): 0, or -1 in an enrolment by p10cr */
     DUSKSTALL_OUTGOING_CERT_REQ_ID = DUSKSTALL_OUTGOING_HAS_CERT_REQ_ID + 1
 };
 
@@ -380,6 +380,12 @@ static inline uint64_t duskstall_number(const uint8_t *bytes, size_t len)
     while (len-- > 0)
         number = number << 8 | *bytes++;
     return number;
+}
+
+/* A pvno, status or certReqId of any sign: 32 bits of two's complement, as they are handed out. */
+static inline int32_t duskstall_signed(uint64_t number)
+{
+    return number > INT32_MAX ? -1 - (int32_t)(UINT32_MAX - number) : (int32_t)number;
 }
 
 /* A refusal in words. */

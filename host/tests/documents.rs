@@ -8,6 +8,7 @@ mod tree;
 use duskstall_host::testing::papers::with_comma;
 use duskstall_host::{MESSAGE_LIMIT, SLOTS};
 use std::collections::BTreeSet;
+use std::path::PathBuf;
 use tree::{
     all_functions, all_labels, crate_of, edits, files, labels, names_of_the_tree, quoted, root,
     text, turned, words, Function,
@@ -36,11 +37,17 @@ fn promises() -> String {
     document("PROMISES.md")
 }
 
+/// The documents but for the landing pages, which say what was there when a request landed.
+fn documents() -> impl Iterator<Item = PathBuf> {
+    let all = files(&root().join("docs")).into_iter();
+    all.filter(|path| !path.starts_with(root().join("docs/landings")))
+}
+
 #[test]
 fn documents_name_what_exists() {
     let names = names_of_the_tree();
     let mut all_missing = BTreeSet::new();
-    for document in files(&root().join("docs")) {
+    for document in documents() {
         let (missing, looked_at) = missing_names(&text(&document), &names);
         let name = document.file_name().expect("a name").to_string_lossy();
         println!("names in {name}: {looked_at}, missing {}", missing.len());
@@ -81,6 +88,17 @@ fn promises_name_every_wrong_answer() {
         missing.len()
     );
     assert!(missing.is_empty(), "not in PROMISES.md: {missing:#?}");
+}
+
+#[test]
+fn promises_count_the_edits_of_protocol() {
+    let (mut of_code, mut all) = (0, 0);
+    for edit in edits().iter().filter(|edit| crate_of(edit) == "protocol") {
+        all += labels(edit).len();
+        of_code += turned(edit).len();
+    }
+    let expected = format!("{all} edits, {of_code} of code and the others of definitions");
+    assert!(promises().contains(&expected), "{expected}");
 }
 
 /// A row of PROMISES.md that begins with the function's name has two labels in its last column.

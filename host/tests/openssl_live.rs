@@ -24,6 +24,7 @@ mod request;
 #[path = "openssl_live/sha1.rs"]
 mod sha1;
 
+use duskstall_host::testing::exchange::P10CR;
 use duskstall_host::testing::received::Received;
 use duskstall_host::testing::sha256::sha256;
 use duskstall_host::{CertHash, EnrolmentState, Outgoing, TransactionState};
@@ -59,7 +60,7 @@ const KINDS: [Kind; 4] = [
     },
     Kind {
         name: "p10cr",
-        request: 4,
+        request: P10CR,
         response: 3,
         number: -1,
         command: "-cmd p10cr -csr new.csr",
@@ -161,7 +162,7 @@ fn response_with_wrong_number_enrols_nobody() {
         let host = registrar::run(openssl, kind.command, SECRET, wrong_number);
         assert_eq!(sent(&host.sent)[0], (kind.response, Some(!kind.number)));
         let (confirmed, said): (&[_], &[_]) = match kind.request {
-            4 => (&[(24, Some(0))], &[0, 16]),
+            P10CR => (&[(24, Some(0))], &[0, 16]),
             _ => (&[], &[0]),
         };
         assert_eq!(came(&host.came)[1..], *confirmed);

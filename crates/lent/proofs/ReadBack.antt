@@ -16,6 +16,7 @@ use Rattle.protocol.proofs.Reachable.{Sound, reachable}
 use Rattle.packed.specs.declared.table.UnpackedTable.{UnpackedTable}
 use Rattle.packed.specs.declared.enrolment.UnpackedEnrolment.{UnpackedEnrolment}
 use Rattle.packed.specs.Arrays.{unpack16}
+use Rattle.packed.specs.Outgoing.{outgoingOf}
 use Rattle.packed.specs.Answer.{outcomeNumber, registrarAnswerBytes, endEntityAnswerBytes}
 use Rattle.packed.specs.Table.{packTable, unpackTable, TableSized}
 use Rattle.packed.specs.Enrolment.{enrolmentBytes, packEnrolment, packEnrolmentIn, unpackEnrolment, EnrolmentSized}
@@ -24,7 +25,7 @@ use Rattle.duskstall.specs.Boundary.{Crossing, registrarWritten, registrarAnswe
 use Rattle.duskstall.specs.Calls.{idOf, freshOf}
 use Rattle.lent.specs.Calls.{registrarCrosses, registrarAnswers, endEntityCrosses, endEntityAnswers}
 use Rattle.lent.specs.Lent.{AtRegistrar, AtEndEntity, EndEntityStart, LentWorld, heldBytes, isMade, lentAfter, lentBeginning, made}
-use Rattle.lent.specs.Reads.{RegistrarReads, EndEntityReads, StartReads, tableIn, enrolmentIn, LentReads, LentSound}
+use Rattle.lent.specs.Reads.{RegistrarReads, EndEntityReads, StartReads, tableIn, enrolmentIn, LentReads, LentSound, AllOutgoingInPlace}
 use Rattle.lent.proofs.Sizes.{sixteen-in}
 use Rattle.lent.proofs.Forms.{RegistrarForm, registrar-form, EndEntityForm, end-entity-form}
 use Rattle.lent.proofs.RegistrarSizes.{RegistrarSized}
@@ -98,3 +99,20 @@ lent-sound s e calls =
     let t : tableIn l ≡ w .table = ap (λ (u : UnpackedTable). u .table) (read-table st) in
     let q : Sound (tableIn l) = subst Sound (sym t) (reachable (made (lentBeginning s) calls)) in
     record { one = q .one; unset = q .unset; promise = promised l (λ _. ap packTable t ∙ sym (st .table)) }
+
+pub outgoing-in-place : AllOutgoingInPlace
+unfolding outgoingOf
+outgoing-in-place o =
+    record {
+      kind = refl;
+      id = refl;
+      senderNonce = refl;
+      hasRecipNonce = refl;
+      recipNonce = refl;
+      hasStatus = refl;
+      status = refl;
+      hash = refl;
+      failure = refl;
+      hasCertReqId = refl;
+      certReqId = refl;
+    }

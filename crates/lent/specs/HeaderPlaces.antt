@@ -118,6 +118,15 @@ outgoingStatusPlace = outgoingHasStatusPlace + flagWidth
 abbrev pub outgoingHashPlace : ℕ
 outgoingHashPlace = outgoingStatusPlace + statusWidth
 
+abbrev pub outgoingFailurePlace : ℕ
+outgoingFailurePlace = outgoingHashPlace + hashWidth
+
+abbrev pub outgoingHasCertReqIdPlace : ℕ
+outgoingHasCertReqIdPlace = outgoingFailurePlace + bitWidth
+
+abbrev pub outgoingCertReqIdPlace : ℕ
+outgoingCertReqIdPlace = outgoingHasCertReqIdPlace + flagWidth
+
 -- ## DUSKSTALL_ANSWER_*
 
 abbrev pub answerCodePlace : ℕ

@@ -1,13 +1,15 @@
 -- What is read out of the bytes after a call that was made is the answer of the call on values, all of it: what is proved of answers holds of the bytes.
 use Prim.Native.Nat.{ℕ}
 use mathlib.Core.List.{List}
-use mathlib.Core.Bool.{true}
+use mathlib.Core.Bool.{true, cond}
 use mathlib.Core.Path.{_≡_}
 use lib.ListN.{length, drop, getElem?}
+use lib.Dec.{eqb}
 use Rattle.protocol.specs.declared.TransactionTable.{TransactionTable}
 use Rattle.protocol.specs.declared.Enrolment.{Enrolment}
 use Rattle.protocol.specs.declared.RegistrarAnswer.{RegistrarAnswer}
 use Rattle.protocol.specs.declared.EndEntityAnswer.{EndEntityAnswer}
+use Rattle.protocol.specs.declared.FailureInfo.the-variants.{NoBit, Bit}
 use Rattle.protocol.specs.EndEntity.{endEntityStart}
 use Rattle.protocol.specs.Promises.{AtMostOne, AllUnsetZero}
 use Rattle.packed.specs.Bytes.{flagAt}
@@ -21,6 +23,7 @@ use Rattle.lent.specs.HeaderPlaces.{endEntitySendsPlace, endEntityOutgoi
 use Rattle.lent.specs.Calls.{registrarAnswers, endEntityAnswers}
 use Rattle.lent.specs.Lent.{LentCall, AtRegistrar, AtEndEntity, EndEntityStart, LentWorld, heldBytes, crossing, isMade, lentAfter, lentBeginning}
 use Rattle.lent.specs.Kept.{LentPromise}
+use Rattle.lent.specs.Places.{outgoingKind, outgoingId, outgoingSenderNonce, outgoingHasRecipNonce, outgoingRecipNonce, outgoingHasStatus, outgoingStatus, outgoingHash, outgoingFailure, outgoingHasCertReqId, outgoingCertReqId}
 
 abbrev pub registrarReadBack : Crossing → RegistrarAnswer
 registrarReadBack x = registrarAnswerOf (x .answer) (x .state)
@@ -71,3 +74,22 @@ pub record SoundBytes (w : LentWorld) : Type 0 where
 
 abbrev pub LentSound : Type 0
 LentSound = (s : List ℕ) → length s ≡ tableBytes → (calls : List LentCall) → SoundBytes (lentAfter (lentBeginning s) calls)
+
+-- ## A message to be sent, at the places of the C header
+
+-- what is read out of these bytes is what stands at DUSKSTALL_OUTGOING_*
+pub record OutgoingInPlace (o : List ℕ) : Type 0 where
+  pub kind : outgoingOf o .kind ≡ outgoingKind o
+  pub id : outgoingOf o .id .bytes ≡ outgoingId o
+  pub senderNonce : outgoingOf o .«sender_nonce» .bytes ≡ outgoingSenderNonce o
+  pub hasRecipNonce : outgoingOf o .«has_recip_nonce» ≡ eqb (outgoingHasRecipNonce o) 1
+  pub recipNonce : outgoingOf o .«recip_nonce» .bytes ≡ outgoingRecipNonce o
+  pub hasStatus : outgoingOf o .contents .«has_status» ≡ eqb (outgoingHasStatus o) 1
+  pub status : outgoingOf o .contents .status ≡ outgoingStatus o
+  pub hash : outgoingOf o .contents .hash .bytes ≡ outgoingHash o
+  pub failure : outgoingOf o .contents .failure ≡ cond (eqb (outgoingFailure o) 255) NoBit (Bit (outgoingFailure o))
+  pub hasCertReqId : outgoingOf o .contents .«has_number» ≡ eqb (outgoingHasCertReqId o) 1
+  pub certReqId : outgoingOf o .contents .number ≡ outgoingCertReqId o
+
+abbrev pub AllOutgoingInPlace : Type 0
+AllOutgoingInPlace = (o : List ℕ) → OutgoingInPlace o

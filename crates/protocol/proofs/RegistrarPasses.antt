@@ -18,7 +18,7 @@ use Rattle.protocol.specs.States.{hasSent, hasHash, isGranted, settledBy
 use Rattle.protocol.specs.Refusals.{pass, lowestRow, notSixteen}
 use Rattle.protocol.specs.RegistrarRows.{registrarRows, isGood, confirms, opens, names, hasEntries, oneEntry, repeats}
 use Rattle.protocol.specs.Registrar.{opened, confirmed, registrarChecked}
-use Rattle.protocol.specs.Slots.{NumberIs}
+use Rattle.protocol.specs.RequestNumber.{NumberIs}
 use Rattle.der.proofs.Auto.{and-right, and-left}
 use Rattle.protocol.proofs.Tests.{passes, one-of, not-false, or-right, and-true-false, true-false, eqb-eq, and-false, isNonce-eq, or-true, both, hash-eq, cases, number-is}
 

@@ -146,5 +146,5 @@ corners r m c o =
     and-none false = refl
 
 pub tables : Tables
-unfolding bitOf
-tables = record { pairing = (refl, refl, refl, refl); bit20 = (refl, refl); noBit = (refl, refl, refl, refl) }
+unfolding bitOf silent
+tables = record { pairing = (refl, refl, refl, refl); bit20 = (refl, refl); noBit = (refl, refl, refl, refl); unsent = refl }

@@ -16,7 +16,7 @@ use Rattle.protocol.specs.Bytes.{sameBytes, sameId, sameNonce, sameHash,
 use Rattle.protocol.specs.Message.{isEnrolmentKind, isResponse, responseTo, p10cr, minusOne, requestNumber}
 use Rattle.protocol.specs.Refusals.{Row, pass, lowestRow, stop}
 use Rattle.protocol.specs.Request.{IsRequest}
-use Rattle.protocol.specs.Slots.{NumberIs}
+use Rattle.protocol.specs.RequestNumber.{NumberIs}
 
 pub true-false : {A : Type 0} → true ≡ false → A
 true-false e = let z : _≡_ {A = ℕ} 0 1 = cc in absurd (omega arith)

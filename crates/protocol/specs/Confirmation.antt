@@ -26,7 +26,8 @@ use Rattle.protocol.specs.Refusals.{noFault}
 use Rattle.protocol.specs.Table.{lookup}
 use Rattle.protocol.specs.Registrar.{registrarMessage}
 use Rattle.protocol.specs.MessageRules.{IsRefused}
-use Rattle.protocol.specs.Slots.{FirstAt, Becomes, Sends, ours, NumberIs, bare}
+use Rattle.protocol.specs.Slots.{FirstAt, Becomes, Sends, ours, bare}
+use Rattle.protocol.specs.RequestNumber.{NumberIs}
 
 -- the 16 bytes of a part that is there
 abbrev pub Sixteen : List ℕ → Span → List ℕ → Type 0

@@ -22,7 +22,8 @@ use Rattle.protocol.specs.Message.{responseTo}
 use Rattle.protocol.specs.Refusals.{noFault}
 use Rattle.protocol.specs.Outgoing.{silent}
 use Rattle.protocol.specs.EndEntity.{endEntityMessage, endEntityTimeOut, endEntityStart}
-use Rattle.protocol.specs.Slots.{ours, NumberIs, bare}
+use Rattle.protocol.specs.Slots.{ours, bare}
+use Rattle.protocol.specs.RequestNumber.{NumberIs}
 use Rattle.protocol.specs.Confirmation.{Sixteen}
 use Rattle.protocol.specs.Request.{IsRequest}
 

@@ -21,7 +21,8 @@ use Rattle.protocol.specs.Message.{responseTo}
 use Rattle.protocol.specs.Refusals.{noFault}
 use Rattle.protocol.specs.Outgoing.{silent}
 use Rattle.protocol.specs.Table.{lookup}
-use Rattle.protocol.specs.Slots.{Becomes, Sends, SendsNothing, ours, NumberIs}
+use Rattle.protocol.specs.Slots.{Becomes, Sends, SendsNothing, ours}
+use Rattle.protocol.specs.RequestNumber.{NumberIs}
 use Rattle.protocol.specs.Registrar.{registrarIssue, registrarRefuse, registrarLapse, registrarClose}
 
 -- refused by this number, with no bit and nothing to send, and the table as it was

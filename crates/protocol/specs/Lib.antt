@@ -18,4 +18,5 @@ pub mod HostRules
 pub mod MessageRules
 pub mod Witness
 pub mod Request
+pub mod RequestNumber
 pub mod EnrolmentRules

@@ -21,7 +21,8 @@ use Rattle.protocol.specs.declared.Outcome.the-variants as outcome
 use Rattle.protocol.specs.declared.TransactionState.the-variants.{Asked, Refused, Lapsed}
 use Rattle.protocol.specs.Message.{Fields, responseTo}
 use Rattle.protocol.specs.Refusals.{bitOf, headRows, noFault}
-use Rattle.protocol.specs.Slots.{ours}
+use Rattle.protocol.specs.Outgoing.{silent}
+use Rattle.protocol.specs.Slots.{ours, bare}
 use Rattle.protocol.specs.RegistrarRows.{isGood, confirmsOtherNonce, otherHash, notTaken}
 use Rattle.protocol.specs.Promises.{Applies}
 
@@ -82,7 +83,7 @@ pub record Corners (r : Transaction) (m : Fields) : Type 0 where
   -- 20: Lapsed takes none
   pub lapsed20 : r .state ≡ Lapsed → notTaken r m ≡ true
 
--- the pairing and the bit of 20, as 01 writes them
+-- the pairing, the bit of 20 and what is not sent, as 01 writes them
 pub record Tables : Type 0 where
   -- "0:1, 2:3, 4:3, 7:8"
   pub pairing : (responseTo 0 ≡ 1) × (responseTo 2 ≡ 3) × (responseTo 4 ≡ 3) × (responseTo 7 ≡ 8)
@@ -90,3 +91,14 @@ pub record Tables : Type 0 where
   pub bit20 : (bitOf 20 true ≡ Bit 11) × (bitOf 20 false ≡ Bit 2)
   -- "none" is no bit, and not bit 0
   pub noBit : (bitOf 21 false ≡ NoBit) × (bitOf 30 false ≡ NoBit) × (bitOf 31 false ≡ NoBit) × (bitOf 32 false ≡ NoBit)
+  -- "unset bytes are zero": where no message is to be sent, zeros stand in its place
+  pub unsent :
+      silent
+      ≡ record {
+        kind = 0;
+        id = record { bytes = replicate 16 0 };
+        «sender_nonce» = record { bytes = replicate 16 0 };
+        «has_recip_nonce» = false;
+        «recip_nonce» = record { bytes = replicate 16 0 };
+        contents = bare;
+      }

@@ -3,7 +3,7 @@ use Prim.Native.Nat.{ℕ, _≤_}
 use mathlib.Core.Bool.{true, false}
 use mathlib.Core.Option.{some}
 use mathlib.Core.Path.{_≡_}
-use mathlib.Core.Logic.{_⊎_, _≢_}
+use mathlib.Core.Logic.{_≢_}
 use lib.ListN.{getElem?, length, replicate}
 use Rattle.protocol.specs.declared.TransactionId.{TransactionId}
 use Rattle.protocol.specs.declared.Nonce.{Nonce}
@@ -46,10 +46,6 @@ pub record Becomes (t : TransactionTable) (i : TransactionId) (r x : Transaction
 -- the 16 bytes that the host drew, as a nonce that is sent and kept
 abbrev pub ours : FreshNonce → Nonce
 ours n = record { bytes = n .bytes }
-
--- "-1 for p10cr", "0 for the others", of a record of this kind: -1 in four bytes, two's complement
-abbrev pub NumberIs : (kind : ℕ) → (number : ℕ) → Type 0
-NumberIs k n = ((k ≡ 4) × (n ≡ 0xFFFFFFFF)) ⊎ ((k ≢ 4) × (n ≡ 0))
 
 -- a message that carries no status, no hash, no bit and no request number
 abbrev pub bare : OutgoingContents

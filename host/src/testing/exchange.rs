@@ -39,9 +39,12 @@ pub enum Certificate {
     Encrypted,
 }
 
+/// The request that carries no certReqId.
+pub const P10CR: u8 = 4;
+
 /// The certReqId that a record of this kind takes, seldom that of the others.
 pub fn some_number(random: &mut Random, kind: u8) -> i64 {
-    let is_p10cr = kind == 4;
+    let is_p10cr = kind == P10CR;
     match is_p10cr != random.once_in(8) {
         true => -1,
         false => 0,

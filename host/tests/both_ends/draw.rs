@@ -4,8 +4,7 @@
 use super::calls::{EndEntityCall, EndEntityMessage, RegistrarCall};
 use super::change::{changed, damaged};
 use super::pool::Pool;
-use super::tally::P10CR;
-use duskstall_host::testing::exchange::{some_number, Certificate, Parts};
+use duskstall_host::testing::exchange::{some_number, Certificate, Parts, P10CR};
 use duskstall_host::testing::random::Random;
 use duskstall_host::{
     Board, Enrolment, Transaction, TransactionState, ENROLMENT_BYTES, ENROLMENT_STATES, SLOTS,

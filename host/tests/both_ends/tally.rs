@@ -5,6 +5,7 @@ use super::calls::Call;
 use duskstall_host::independent;
 use duskstall_host::library::{BAD_LENGTH, NO_ROOM, NO_STATE};
 use duskstall_host::testing::der::show;
+use duskstall_host::testing::exchange::P10CR;
 use duskstall_host::testing::random::Random;
 use std::collections::BTreeMap;
 use std::fmt::Debug;
@@ -14,9 +15,6 @@ const MARGIN: usize = 16;
 
 /// How often each row, number and state has to be met at least.
 const ENOUGH: usize = 500;
-
-/// The request that carries no certReqId.
-pub const P10CR: u8 = 4;
 
 /// A record's kind, and its state by name.
 pub type Record = (u8, String);

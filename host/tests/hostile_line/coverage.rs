@@ -1,10 +1,8 @@
 //! Which moves and refusals of which calls were met, and which there are.
 
+use duskstall_host::testing::exchange::P10CR;
 use duskstall_host::{independent, Outcome};
 use std::collections::{BTreeMap, BTreeSet};
-
-/// The request that carries no certReqId.
-const P10CR: u8 = 4;
 
 /// Counts by a call and how it ended, as "certConf: refused 12".
 #[derive(Default)]

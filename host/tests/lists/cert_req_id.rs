@@ -5,11 +5,10 @@
 use super::scene::{changed, good, hash, id, Scene};
 use duskstall_host::testing::der::hex;
 use duskstall_host::testing::ends::{Compiled, Ends, Model};
-use duskstall_host::testing::exchange::{Certificate, Parts};
+use duskstall_host::testing::exchange::{Certificate, Parts, P10CR};
 use duskstall_host::{EnrolmentState, FreshNonce, TransactionState};
 
 const CR: u8 = 2;
-const P10CR: u8 = 4;
 
 /// The kinds of requests, each with the number of its enrolment.
 const KINDS: [(u8, i64); 4] = [(0, 0), (CR, 0), (P10CR, -1), (7, 0)];

@@ -2,7 +2,7 @@
 //! nonces in their messages.
 
 use duskstall_host::testing::answers::plain;
-use duskstall_host::testing::exchange::Parts;
+use duskstall_host::testing::exchange::{Parts, P10CR};
 use duskstall_host::{FreshNonce, Nonce, Outgoing, TransactionId};
 
 pub fn id_in(message: &Parts) -> TransactionId {
@@ -21,7 +21,7 @@ fn sixteen(part: &Option<Vec<u8>>) -> [u8; 16] {
 /// The certReqId of an enrolment by a request of this kind.
 pub fn number_of(request: u8) -> i32 {
     match request {
-        4 => -1,
+        P10CR => -1,
         _ => 0,
     }
 }

@@ -6,6 +6,7 @@ use super::http::{loopback, serve};
 use super::openssl::{until, OpenSsl};
 use super::protection::is_good;
 use super::request::element;
+use duskstall_host::testing::exchange::P10CR;
 use duskstall_host::testing::received::Received;
 use duskstall_host::testing::sha256::sha256;
 use duskstall_host::{Board, CertHash, FreshNonce, Outgoing, Registrar, TransactionState, Verdict};
@@ -95,7 +96,7 @@ impl Host<'_> {
     /// The response to a request that the registrar has taken.
     fn issue(&mut self, request: &Received) -> Outgoing {
         let asked = match request.reading.kind {
-            4 => request.part(request.reading.request).to_vec(),
+            P10CR => request.part(request.reading.request).to_vec(),
             // The authority has no use for a CertTemplate; this is the same name and key.
             _ => self.openssl.read("new.csr"),
         };

@@ -3,6 +3,7 @@
 
 use super::openssl::OpenSsl;
 use duskstall_host::testing::der::{parse, Node};
+use duskstall_host::testing::exchange::P10CR;
 
 /// ecdsa-with-SHA256, 1.2.840.10045.4.3.2.
 const ECDSA_WITH_SHA256: [u8; 8] = [0x2A, 0x86, 0x48, 0xCE, 0x3D, 0x04, 0x03, 0x02];
@@ -19,7 +20,7 @@ pub fn element(der: &[u8]) -> Node {
 /// The content of a request of this kind.
 pub fn request(openssl: &OpenSsl, kind: u8) -> Node {
     let pkcs10 = element(&openssl.read("new.csr"));
-    if kind == 4 {
+    if kind == P10CR {
         return pkcs10;
     }
     let [_version, subject, key, ..] = pkcs10.children()[0].children() else {
