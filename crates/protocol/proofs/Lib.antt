@@ -28,6 +28,7 @@ pub mod EndEntityPromises
 pub mod LowestRow
 pub mod Rules
 pub mod FreeSlots
+pub mod Means
 pub mod RequestNumber
 pub mod RequestRule
 pub mod EnrolmentTakes

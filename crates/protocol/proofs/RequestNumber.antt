@@ -1,9 +1,9 @@
 -- M-100: refusal 16 is given exactly where the request number is not the record's, at both ends.
 use Prim.Native.Nat.{ℕ, _≤_}
-use mathlib.Core.List.{List, [], _∷_}
+use mathlib.Core.List.{List}
 use mathlib.Core.Bool.{Bool, true, false, not, cond, _&&_, _||_}
 use mathlib.Core.Option.{Option, none, some, Option·getD}
-use mathlib.Core.Path.{_≡_, refl, sym, _∙_, ap, subst}
+use mathlib.Core.Path.{_≡_, refl, sym, _∙_, ap}
 use mathlib.Core.Logic.{_⊎_, inl, inr}
 use native.Mathlib.Omega.{arith}
 use lib.Dec.{eqb}
@@ -15,88 +15,20 @@ use Rattle.protocol.specs.declared.EndEntityInput.{EndEntityInput}
 use Rattle.protocol.specs.declared.Transaction.{Transaction}
 use Rattle.protocol.specs.declared.TransactionTable.{TransactionTable}
 use Rattle.protocol.specs.declared.Enrolment.{Enrolment}
-use Rattle.protocol.specs.declared.FailureInfo.{FailureInfo}
-use Rattle.protocol.specs.declared.Outcome.{Outcome}
-use Rattle.protocol.specs.declared.RegistrarAnswer.{RegistrarAnswer}
-use Rattle.protocol.specs.declared.EndEntityAnswer.{EndEntityAnswer}
 use Rattle.protocol.specs.declared.FailureInfo.the-variants.{Bit}
-use Rattle.protocol.specs.declared.Outcome.the-variants as outcome
 use Rattle.protocol.specs.Bytes.{asId}
-use Rattle.protocol.specs.Message.{Fields, fieldsOf, requestNumber, isResponse, statusOr0}
+use Rattle.protocol.specs.Message.{Fields, fieldsOf, requestNumber, isResponse}
 use Rattle.protocol.specs.Table.{lookup, freeTransaction}
-use Rattle.protocol.specs.States.{isGranted}
-use Rattle.protocol.specs.Refusals.{Row, LowestRow, stop, pass, lowestRow, bitOf}
-use Rattle.protocol.specs.RegistrarRows.{registrarRows, otherRequest, hasEntries, oneEntry, confirms, confirmsUnknown}
-use Rattle.protocol.specs.Registrar.{registrarChecked, registrarFields, registrarMessage, confirmedAt}
+use Rattle.protocol.specs.Refusals.{Row, bitOf}
+use Rattle.protocol.specs.RegistrarRows.{registrarRows, otherRequest, confirms, confirmsUnknown}
+use Rattle.protocol.specs.Registrar.{registrarMessage}
 use Rattle.protocol.specs.EndEntityRows.{endEntityRows, otherNumber, responds, oneResponse}
-use Rattle.protocol.specs.EndEntity.{endEntityChecked, endEntityMessage, endEntityRead}
-use Rattle.protocol.specs.Promises.{Applies, LowestGiven}
-use Rattle.protocol.specs.RequestNumber.{NumberIs, OtherAtRegistrar, OtherAtEndEntity, Means16}
+use Rattle.protocol.specs.EndEntity.{endEntityMessage}
+use Rattle.protocol.specs.MessageRules.{Means}
+use Rattle.protocol.specs.RequestNumber.{NumberIs, OtherAtRegistrar, OtherAtEndEntity}
 use Rattle.der.proofs.Auto.{and-left, and-right, or-cases}
-use Rattle.protocol.proofs.Tests.{true-false, eqb-eq, same-number, appliesAt, both, cases, one-of, other-than, number-is, is-number}
-use Rattle.protocol.proofs.RegistrarPromises.{refused-number, refused-bit, done-refused, again-refused}
-use Rattle.protocol.proofs.RegistrarPasses.{taken-by}
-use Rattle.protocol.proofs.EndEntityPasses.{answered-by}
-use Rattle.protocol.proofs.ConfirmationMoves.{message-at}
-use Rattle.protocol.proofs.LowestRow.{registrar-lowest, end-entity-lowest}
-
--- ## A row that stands once in its table
-
-abbrev absent : ℕ → List Row → Bool
-absent n [] = true
-absent n (r ∷ rs) = not (eqb n (r .number)) && absent n rs
-
-abbrev once : ℕ → List Row → Bool
-once n [] = true
-once n (r ∷ rs) = cond (eqb n (r .number)) (absent n rs) (once n rs)
-
-absent-none : (n : ℕ) (rs : List Row) → absent n rs ≡ true → Applies n rs → ⊥
-absent-none n [] e a = a
-absent-none n (r ∷ rs) e (inl g) = true-false (sym (and-left (not (eqb n (r .number))) (absent n rs) e) ∙ ap not (same-number n (r .number) (sym (g .0))))
-absent-none n (r ∷ rs) e (inr a) = absent-none n rs (and-right (not (eqb n (r .number))) (absent n rs) e) a
-
-applies-by : (n : ℕ) (r : Row) (rs : List Row) → (once n rs ≡ true → Applies n rs → appliesAt n rs ≡ true) → (b : Bool) → eqb n (r .number) ≡ b → cond b (absent n rs) (once n rs) ≡ true → Applies n (r ∷ rs) → cond b (r .applies) (appliesAt n rs) ≡ true
-applies-by n r rs ih true p o (inl g) = g .1
-applies-by n r rs ih true p o (inr a) = absurd (absent-none n rs o a)
-applies-by n r rs ih false p o (inl g) = true-false (sym (same-number n (r .number) (sym (g .0))) ∙ p)
-applies-by n r rs ih false p o (inr a) = ih o a
-
--- its test holds where the row applies
-applies-at : (n : ℕ) (rs : List Row) → once n rs ≡ true → Applies n rs → appliesAt n rs ≡ true
-applies-at n [] o a = absurd a
-applies-at n (r ∷ rs) o a = applies-by n r rs (λ q b. applies-at n rs q b) (eqb n (r .number)) refl o a
-
-at-by : (n : ℕ) (r : Row) (rs : List Row) → (appliesAt n rs ≡ true → Applies n rs) → (b : Bool) → eqb n (r .number) ≡ b → cond b (r .applies) (appliesAt n rs) ≡ true → Applies n (r ∷ rs)
-at-by n r rs ih true p e = inl (sym (eqb-eq n (r .number) p), e)
-at-by n r rs ih false p e = inr (ih e)
-
--- and the row applies where its test holds
-at-applies : (n : ℕ) (rs : List Row) → appliesAt n rs ≡ true → Applies n rs
-at-applies n [] e = true-false (sym e)
-at-applies n (r ∷ rs) e = at-by n r rs (λ q. at-applies n rs q) (eqb n (r .number)) refl e
-
--- ## Refusal 16 of a table whose lowest row is given
-
-module _ (rows : List Row) (o : Outcome) (l : LowestGiven rows o) (Other : Type 0) where
-  means-16 :
-      once 16 rows ≡ true
-      → ((b : FailureInfo) → o ≡ outcome.Refused 16 b → b ≡ Bit 2)
-      → (appliesAt 16 rows ≡ true → ((k : ℕ) → Applies k rows → 16 ≤ k) → Other)
-      → (Other → appliesAt 16 rows ≡ true)
-      → Means16 Other rows o
-  means-16 u bit to from =
-      record {
-        only = λ b e. to (applies-at 16 rows u (l .given 16 b e)) (l .lowest 16 b e);
-        given = λ w h. there (from w) h (l .whenever 16 (at-applies 16 rows (from w)));
-      }
-    where
-      there : appliesAt 16 rows ≡ true → ((k : ℕ) → Applies k rows → 16 ≤ k) → (n : ℕ) × (b : FailureInfo) × (o ≡ outcome.Refused n b) → o ≡ outcome.Refused 16 (Bit 2)
-      there a h (n, b, e) =
-          let up : n ≤ 16 = l .lowest n b e 16 (at-applies 16 rows a) in
-          let down : 16 ≤ n = h n (l .given n b e) in
-          let q : n ≡ 16 = omega arith in
-          let f : o ≡ outcome.Refused 16 b = e ∙ ap (λ (k : ℕ). outcome.Refused k b) q in
-          f ∙ ap (outcome.Refused 16) (bit b f)
+use Rattle.protocol.proofs.Tests.{true-false, eqb-eq, same-number, both, one-of, other-than, number-is, is-number}
+use Rattle.protocol.proofs.Means.{at-applies, registrar-means, end-entity-means}
 
 bit-16 : (c : Bool) → bitOf 16 c ≡ Bit 2
 unfolding bitOf
@@ -171,13 +103,6 @@ module _ (t : TransactionTable) (d : RegistrarInput) (bytes : List ℕ) (m : Mes
   abbrev table : Option Transaction → List Row
   table h = registrarRows (t .transactions) h (d .verdict) f
 
-  registrar-bit : (c : LowestRow) → lowestRow (table g) ≡ c → (b : FailureInfo) → registrarChecked c g t d f .outcome ≡ outcome.Refused 16 b → b ≡ Bit 2
-  unfolding registrarChecked
-  registrar-bit (stop k) e b = λ q. sym (refused-bit k 16 _ b q) ∙ ap (λ (n : ℕ). bitOf n (confirmedAt g)) (refused-number k 16 _ b q) ∙ bit-16 (confirmedAt g)
-  registrar-bit pass e b =
-      taken-by t d f (λ (a : RegistrarAnswer). a .outcome ≡ outcome.Refused 16 b → b ≡ Bit 2) g e (λ _ _ _ z. done-refused 16 b z)
-      (λ r _ _ _. cases (λ (a : RegistrarAnswer). a .outcome ≡ outcome.Refused 16 b → b ≡ Bit 2) (isGranted (r .state)) _ _ (λ _ z. done-refused 16 b z) (λ _ z. again-refused 16 b z))
-
   -- a certConf: row 12 has let it pass, so its transaction is there
   of-cert-conf : (h : Option Transaction) → g ≡ h → f .kind ≡ 24 → (eqb (f .entries) 1 && not (eqb (f .request) (requestNumber (Option·getD h freeTransaction .kind)))) ≡ true → (confirmsUnknown h f ≡ true → ⊥) → OtherAtRegistrar t (asId (f .id)) m
   unfolding fieldsOf
@@ -202,11 +127,10 @@ module _ (t : TransactionTable) (d : RegistrarInput) (bytes : List ℕ) (m : Mes
       asks-24 _ (f .kind) (f .entries) (f .request) k ∙ both (eqb (f .entries) 1) _ (same-number (f .entries) 1 one) (ap (λ (x : Option Transaction). not (eqb (f .request) (requestNumber (Option·getD x freeTransaction .kind)))) z ∙ other-than-asked (r .kind) (f .request) w)
 
 pub registrar-means-16 : (t : TransactionTable) (d : RegistrarInput) (bytes : List ℕ) (m : Message) → readingOf bytes ≡ read.Clean m
-    → Means16 (OtherAtRegistrar t (asId (fieldsOf bytes m .id)) m) (registrarRows (t .transactions) (lookup (t .transactions) (asId (fieldsOf bytes m .id))) (d .verdict) (fieldsOf bytes m)) (registrarMessage t d bytes .outcome)
-unfolding registrarRows registrarFields
+    → Means 16 (Bit 2) (OtherAtRegistrar t (asId (fieldsOf bytes m .id)) m) (registrarRows (t .transactions) (lookup (t .transactions) (asId (fieldsOf bytes m .id))) (d .verdict) (fieldsOf bytes m)) (registrarMessage t d bytes .outcome)
+unfolding registrarRows
 registrar-means-16 t d bytes m e =
-    means-16 _ _ (registrar-lowest t d bytes m e) _ refl
-    (λ b q. registrar-bit t d bytes m _ refl b (ap (λ (a : RegistrarAnswer). a .outcome) (sym (message-at t d bytes m e)) ∙ q))
+    registrar-means 16 t d bytes m e _ (Bit 2) bit-16 refl
     (λ a h. registrar-to t d bytes m _ refl a (λ u. let z : 16 ≤ 12 = h 12 (at-applies 12 (table t d bytes m (g t d bytes m)) u) in omega arith))
     (λ w. registrar-from t d bytes m _ refl w)
 
@@ -215,13 +139,6 @@ registrar-means-16 t d bytes m e =
 module _ (x : Enrolment) (d : EndEntityInput) (bytes : List ℕ) (m : Message) where
   abbrev fields : Fields
   fields = fieldsOf bytes m
-
-  end-entity-bit : (c : LowestRow) → lowestRow (endEntityRows x (d .good) fields) ≡ c → (b : FailureInfo) → endEntityChecked c x d fields .outcome ≡ outcome.Refused 16 b → b ≡ Bit 2
-  unfolding endEntityChecked
-  end-entity-bit (stop k) e b = λ q. sym (refused-bit k 16 _ b q) ∙ ap (λ (n : ℕ). bitOf n false) (refused-number k 16 _ b q) ∙ bit-16 false
-  end-entity-bit pass e b =
-      answered-by x d fields (λ (a : EndEntityAnswer). a .outcome ≡ outcome.Refused 16 b → b ≡ Bit 2) e (λ _ z. done-refused 16 b z) (λ _ z. done-refused 16 b z)
-      (λ _. cases (λ (a : EndEntityAnswer). a .outcome ≡ outcome.Refused 16 b → b ≡ Bit 2) (eqb (statusOr0 (fields .status)) 2) _ _ (λ _ z. done-refused 16 b z) (λ _ z. done-refused 16 b z))
 
   end-entity-to : otherNumber x fields ≡ true → OtherAtEndEntity x m
   unfolding fieldsOf
@@ -242,10 +159,9 @@ module _ (x : Enrolment) (d : EndEntityInput) (bytes : List ℕ) (m : Message) w
       a-response k (inr (inr p)) = rw p
 
 pub end-entity-means-16 : (x : Enrolment) (d : EndEntityInput) (bytes : List ℕ) (m : Message) → readingOf bytes ≡ read.Clean m
-    → Means16 (OtherAtEndEntity x m) (endEntityRows x (d .good) (fieldsOf bytes m)) (endEntityMessage x d bytes .outcome)
-unfolding endEntityRows endEntityMessage endEntityRead
+    → Means 16 (Bit 2) (OtherAtEndEntity x m) (endEntityRows x (d .good) (fieldsOf bytes m)) (endEntityMessage x d bytes .outcome)
+unfolding endEntityRows
 end-entity-means-16 x d bytes m e =
-    means-16 _ _ (end-entity-lowest x d bytes m e) _ refl
-    (λ b q. end-entity-bit x d bytes m _ refl b (sym (rw e) ∙ q))
+    end-entity-means 16 x d bytes m e _ (Bit 2) (bit-16 false) refl
     (λ a h. end-entity-to x d bytes m a)
     (λ w. end-entity-from x d bytes m w)

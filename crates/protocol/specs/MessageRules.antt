@@ -1,5 +1,6 @@
 -- What a refused message sends, and the corners of the table that 01 and its list of slips name.
 use Prim.Native.Nat.{ℕ, _<_, _≤_}
+use mathlib.Core.List.{List}
 use mathlib.Core.Bool.{true, false}
 use mathlib.Core.Option.{none}
 use mathlib.Core.Path.{_≡_}
@@ -20,7 +21,7 @@ use Rattle.protocol.specs.declared.FailureInfo.the-variants.{NoBit, Bit}
 use Rattle.protocol.specs.declared.Outcome.the-variants as outcome
 use Rattle.protocol.specs.declared.TransactionState.the-variants.{Asked, Refused, Lapsed}
 use Rattle.protocol.specs.Message.{Fields, responseTo}
-use Rattle.protocol.specs.Refusals.{bitOf, headRows, noFault}
+use Rattle.protocol.specs.Refusals.{Row, bitOf, headRows, noFault}
 use Rattle.protocol.specs.Outgoing.{silent}
 use Rattle.protocol.specs.Slots.{ours, bare}
 use Rattle.protocol.specs.RegistrarRows.{isGood, confirmsOtherNonce, otherHash, notTaken}
@@ -71,6 +72,11 @@ refusedBy8 t i n a =
       outgoing = errorMessage i n a (Bit 2);
       table = t;
     }
+
+-- "refusal n means" this: it is given only there, and there it is, with this bit, unless a lower row applies
+pub record Means (n : ℕ) (b : FailureInfo) (This : Type 0) (rows : List Row) (o : Outcome) : Type 0 where
+  pub only : (c : FailureInfo) → o ≡ outcome.Refused n c → This
+  pub given : This → ((k : ℕ) → Applies k rows → n ≤ k) → o ≡ outcome.Refused n b
 
 -- a certConf with one entry, for the transaction r
 pub record Corners (r : Transaction) (m : Fields) : Type 0 where

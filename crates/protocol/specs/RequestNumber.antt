@@ -1,6 +1,5 @@
--- M-100: which request number (certReqId) a record has, and where refusal 16 is given, in the request's own words.
-use Prim.Native.Nat.{ℕ, _≤_}
-use mathlib.Core.List.{List}
+-- M-100: which request number (certReqId) a record has, and where a message has another, in the request's own words.
+use Prim.Native.Nat.{ℕ}
 use mathlib.Core.Option.{some}
 use mathlib.Core.Path.{_≡_}
 use mathlib.Core.Logic.{_⊎_, _≢_}
@@ -9,13 +8,7 @@ use Rattle.protocol.specs.declared.TransactionId.{TransactionId}
 use Rattle.protocol.specs.declared.Transaction.{Transaction}
 use Rattle.protocol.specs.declared.TransactionTable.{TransactionTable}
 use Rattle.protocol.specs.declared.Enrolment.{Enrolment}
-use Rattle.protocol.specs.declared.FailureInfo.{FailureInfo}
-use Rattle.protocol.specs.declared.Outcome.{Outcome}
-use Rattle.protocol.specs.declared.FailureInfo.the-variants.{Bit}
-use Rattle.protocol.specs.declared.Outcome.the-variants as outcome
-use Rattle.protocol.specs.Refusals.{Row}
 use Rattle.protocol.specs.Table.{lookup}
-use Rattle.protocol.specs.Promises.{Applies}
 
 -- "-1 for p10cr", "0 for the others", of a record of this kind: -1 in four bytes, two's complement
 abbrev pub NumberIs : (kind : ℕ) → (number : ℕ) → Type 0
@@ -35,8 +28,3 @@ OtherAtEndEntity x m =
     (m .body .entries ≡ 1)
     × ((m .body .kind ≡ 1) ⊎ (m .body .kind ≡ 3) ⊎ (m .body .kind ≡ 8))
     × (NumberIs (x .kind) (m .body .entry .number) → ⊥)
-
--- "refusal 16 means" this: it is given only there, and there it is, unless a lower row applies
-pub record Means16 (Other : Type 0) (rows : List Row) (o : Outcome) : Type 0 where
-  pub only : (b : FailureInfo) → o ≡ outcome.Refused 16 b → Other
-  pub given : Other → ((k : ℕ) → Applies k rows → 16 ≤ k) → o ≡ outcome.Refused 16 (Bit 2)
