@@ -86,12 +86,12 @@ void show_message(const uint8_t *message, size_t len)
                rule_words(fields[DUSKSTALL_FIELD_FAULT_RULE]));
         return;
     }
-    printf("  %s, %u bytes: pvno %u", kind_name(fields[DUSKSTALL_FIELD_KIND]), (unsigned)len,
-           (unsigned)fields[DUSKSTALL_FIELD_VERSION]);
+    printf("  %s, %u bytes: pvno %d", kind_name(fields[DUSKSTALL_FIELD_KIND]), (unsigned)len,
+           (int)duskstall_signed(fields[DUSKSTALL_FIELD_VERSION]));
     if (fields[DUSKSTALL_FIELD_ENTRIES] == 1)
-        printf(", one entry, certReqId %d", duskstall_signed(fields[DUSKSTALL_FIELD_CERT_REQ_ID]));
+        printf(", one entry, certReqId %d", (int)duskstall_signed(fields[DUSKSTALL_FIELD_CERT_REQ_ID]));
     if (fields[DUSKSTALL_FIELD_HAS_STATUS])
-        printf(", status %d", duskstall_signed(fields[DUSKSTALL_FIELD_STATUS]));
+        printf(", status %d", (int)duskstall_signed(fields[DUSKSTALL_FIELD_STATUS]));
     printf("\n");
     show_parts(message, fields);
 }
@@ -128,8 +128,8 @@ static void show_outgoing(const uint8_t *outgoing)
     }
     printf("; to send: %s", kind_name(outgoing[DUSKSTALL_OUTGOING_KIND]));
     if (outgoing[DUSKSTALL_OUTGOING_HAS_CERT_REQ_ID])
-        printf(", certReqId %d", duskstall_signed(duskstall_number(outgoing + DUSKSTALL_OUTGOING_CERT_REQ_ID,
-                                                                   DUSKSTALL_CERT_REQ_ID_BYTES)));
+        printf(", certReqId %d", (int)duskstall_signed(duskstall_number(outgoing + DUSKSTALL_OUTGOING_CERT_REQ_ID,
+                                                                        DUSKSTALL_CERT_REQ_ID_BYTES)));
     if (outgoing[DUSKSTALL_OUTGOING_HAS_STATUS])
         printf(", status %u", (unsigned)duskstall_number(outgoing + DUSKSTALL_OUTGOING_STATUS, 4));
     printf("\n");

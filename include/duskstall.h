@@ -382,10 +382,11 @@ static inline uint64_t duskstall_number(const uint8_t *bytes, size_t len)
     return number;
 }
 
-/* A pvno, status or certReqId of any sign: 32 bits of two's complement, as they are handed out. */
+/* A pvno, status or certReqId as a signed number, from its low 32 bits (two's complement). */
 static inline int32_t duskstall_signed(uint64_t number)
 {
-    return number > INT32_MAX ? -1 - (int32_t)(UINT32_MAX - number) : (int32_t)number;
+    uint32_t low = (uint32_t)number;
+    return low > INT32_MAX ? -1 - (int32_t)(UINT32_MAX - low) : (int32_t)low;
 }
 
 /* A refusal in words. */

@@ -85,7 +85,7 @@ module _ (n : ℕ) (rows : List Row) (o : Outcome) (l : LowestGiven rows o) (Thi
       → Means n b This rows o
   means u bit to from =
       record {
-        only = λ c e. to (applies-at n rows u (l .given n c e)) (l .lowest n c e);
+        only = λ c e. (bit c e, to (applies-at n rows u (l .given n c e)) (l .lowest n c e));
         given = λ w h. there (from w) h (l .whenever n (at-applies n rows (from w)));
       }
     where

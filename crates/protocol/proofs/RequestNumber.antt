@@ -1,4 +1,4 @@
--- M-100: refusal 16 is given exactly where the request number is not the record's, at both ends.
+-- Refusal 16 is given only where the request number is not the record's, and there unless a lower row applies, at both ends.
 use Prim.Native.Nat.{ℕ, _≤_}
 use mathlib.Core.List.{List}
 use mathlib.Core.Bool.{Bool, true, false, not, cond, _&&_, _||_}

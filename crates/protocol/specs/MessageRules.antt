@@ -73,9 +73,9 @@ refusedBy8 t i n a =
       table = t;
     }
 
--- "refusal n means" this: it is given only there, and there it is, with this bit, unless a lower row applies
+-- refusal n means This: it is given only where This holds, and there it is, with the bit b, unless a lower row applies
 pub record Means (n : ℕ) (b : FailureInfo) (This : Type 0) (rows : List Row) (o : Outcome) : Type 0 where
-  pub only : (c : FailureInfo) → o ≡ outcome.Refused n c → This
+  pub only : (c : FailureInfo) → o ≡ outcome.Refused n c → (c ≡ b) × This
   pub given : This → ((k : ℕ) → Applies k rows → n ≤ k) → o ≡ outcome.Refused n b
 
 -- a certConf with one entry, for the transaction r
@@ -89,7 +89,7 @@ pub record Corners (r : Transaction) (m : Fields) : Type 0 where
   -- 20: Lapsed takes none
   pub lapsed20 : r .state ≡ Lapsed → notTaken r m ≡ true
 
--- the pairing, the bit of 20 and what is not sent, as 01 writes them
+-- the pairing and the bits, as 01 writes them, and what stands where nothing is sent
 pub record Tables : Type 0 where
   -- "0:1, 2:3, 4:3, 7:8"
   pub pairing : (responseTo 0 ≡ 1) × (responseTo 2 ≡ 3) × (responseTo 4 ≡ 3) × (responseTo 7 ≡ 8)
@@ -97,7 +97,7 @@ pub record Tables : Type 0 where
   pub bit20 : (bitOf 20 true ≡ Bit 11) × (bitOf 20 false ≡ Bit 2)
   -- "none" is no bit, and not bit 0
   pub noBit : (bitOf 21 false ≡ NoBit) × (bitOf 30 false ≡ NoBit) × (bitOf 31 false ≡ NoBit) × (bitOf 32 false ≡ NoBit)
-  -- "unset bytes are zero": where no message is to be sent, zeros stand in its place
+  -- where no message is to be sent: zeros, no flag and no bit
   pub unsent :
       silent
       ≡ record {
