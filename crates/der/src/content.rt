@@ -47,7 +47,7 @@ fn integer_ok(c: &[u8]) -> bool
     true
 }
 
-fn bit_string_ok(c: &[u8]) -> bool
+pub fn bit_string_ok(c: &[u8]) -> bool
     ensures { λ r. ⌜ r ≡ bitStringOk (now (c .entry)) ⌝ }
 {
     let n = c.len();

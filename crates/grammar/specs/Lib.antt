@@ -5,4 +5,5 @@ pub mod Header
 pub mod Entries
 pub mod Body
 pub mod Message
+pub mod Alone
 pub mod Code

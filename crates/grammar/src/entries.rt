@@ -60,7 +60,7 @@ pub(crate) fn no_entry() -> Entry
 }
 
 // CertReqMsg, as far as its certReqId.
-fn request(m: &[u8], c: Cursor) -> Item
+pub(crate) fn request(m: &[u8], c: Cursor) -> Item
     ensures { λ r. ⌜ r ≡ requestOf (now (m .entry)) c ⌝ }
 {
     let s = need(m, c, 0x30);

@@ -1,4 +1,5 @@
 // The grammar of a PKIMessage (RFC 9810) as document 01 takes it: where each part stands, or where the grammar is broken.
+pub mod alone;
 mod cursor;
 mod entries;
 mod parts;

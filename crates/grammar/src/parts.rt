@@ -94,7 +94,7 @@ pub(crate) fn found(outer: Cursor, inner: Cursor) -> Cursor
 }
 
 // AlgorithmIdentifier or InfoTypeAndValue.
-fn typed(m: &[u8], c: Cursor) -> Cursor
+pub(crate) fn typed(m: &[u8], c: Cursor) -> Cursor
     ensures { λ r. ⌜ r ≡ typedOf (now (m .entry)) c ⌝ }
 {
     let s = need(m, c, 0x30);
@@ -141,7 +141,7 @@ fn sequence_typed(m: &[u8], c: Cursor) -> Cursor
 }
 
 // A SEQUENCE of one or more.
-fn sequence_of(m: &[u8], c: Cursor, what: Each) -> Cursor
+pub(crate) fn sequence_of(m: &[u8], c: Cursor, what: Each) -> Cursor
     ensures { λ r. ⌜ r ≡ sequenceOf (now (m .entry)) what c ⌝ }
 {
     match what {

@@ -51,7 +51,7 @@ pub struct HeaderRead {
     pub header: Header,
 }
 
-fn name_tag(t: u8) -> bool
+pub(crate) fn name_tag(t: u8) -> bool
     ensures { λ r. ⌜ r ≡ nameTag t ⌝ }
 {
     if t == 0xA0 {

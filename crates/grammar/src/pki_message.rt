@@ -24,7 +24,7 @@ pub struct MessageRead {
     pub found: Message,
 }
 
-fn start_at(end: usize) -> Cursor
+pub(crate) fn start_at(end: usize) -> Cursor
     ensures { λ r. ⌜ r ≡ startAt end ⌝ }
 {
     Cursor {
