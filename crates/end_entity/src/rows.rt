@@ -16,6 +16,7 @@ use protocol::Nonce;
 use protocol::TransactionId;
 use protocol::kinds::ERROR;
 use protocol::kinds::PKI_CONF;
+use protocol::kinds::is_response;
 use protocol::kinds::request_number;
 use protocol::kinds::response_to;
 ghost use mathlib.Core.Path.{_≡_};
@@ -27,19 +28,6 @@ ghost use Rattle.protocol.specs.States.{isWaiting, isConfirming};
 ghost use Rattle.protocol.specs.Refusals.{lowestRow};
 ghost use Rattle.protocol.specs.EndEntityRows.{endEntityRows};
 ghost use Rattle.incoming.specs.Incoming.{numberOf};
-
-// ip, cp, kup
-pub(crate) fn is_response(kind: u8) -> bool
-    ensures { λ r. ⌜ r ≡ isResponse kind ⌝ }
-{
-    if kind == 1 {
-        return true;
-    }
-    if kind == 3 {
-        return true;
-    }
-    kind == 8
-}
 
 // 8
 fn other_answer(kind: u8, request: u8) -> bool

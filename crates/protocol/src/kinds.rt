@@ -1,9 +1,9 @@
 // The kinds of message: which enrol, open and start, and how they pair.
 ghost use mathlib.Core.Path.{_≡_};
-ghost use Rattle.protocol.specs.Message.{isEnrolmentKind, isOpeningKind, isStartingKind, responseTo, requestNumber};
+ghost use Rattle.protocol.specs.Message.{isEnrolmentKind, isResponse, isOpeningKind, isStartingKind, responseTo, requestNumber};
 
 // The request that carries no certReqId.
-const P10CR: u8 = 4;
+pub const P10CR: u8 = 4;
 
 // The kinds that are no request and no response.
 pub const PKI_CONF: u8 = 19;
@@ -16,7 +16,7 @@ pub const CERT_CONF: u8 = 24;
 const UNPAIRED: u8 = 3;
 
 // The requests that enrol: ir, cr, p10cr, kur.
-fn is_enrolment_kind(kind: u8) -> bool
+pub fn is_enrolment_kind(kind: u8) -> bool
     ensures { λ r. ⌜ r ≡ isEnrolmentKind kind ⌝ }
 {
     if kind == 0 {
@@ -29,6 +29,19 @@ fn is_enrolment_kind(kind: u8) -> bool
         return true;
     }
     kind == 7
+}
+
+// The responses: ip, cp, kup.
+pub fn is_response(kind: u8) -> bool
+    ensures { λ r. ⌜ r ≡ isResponse kind ⌝ }
+{
+    if kind == 1 {
+        return true;
+    }
+    if kind == 3 {
+        return true;
+    }
+    kind == 8
 }
 
 // What opens a transaction at the registrar.
