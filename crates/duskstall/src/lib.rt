@@ -2,14 +2,17 @@
 mod boundary;
 pub mod end_entity_calls;
 pub mod registrar_calls;
+pub mod writer_calls;
 
 use fields::FIELDS;
 use fields::check_number;
 use fields::read_into;
+use given::numbers::GIVEN;
 use message::MAX_MESSAGE;
 use packed::answer::END_ENTITY_ANSWER_BYTES;
 use packed::answer::REGISTRAR_ANSWER_BYTES;
 use packed::enrolment::ENROLMENT_BYTES;
+use packed::outgoing::OUTGOING_BYTES;
 use packed::table::TABLE_BYTES;
 ghost use mathlib.Core.Path.{_≡_};
 ghost use Rattle.fields.specs.Fields.{checkAnswer, readAnswer, readFields};
@@ -56,6 +59,12 @@ pub extern "C" fn duskstall_size(what: u8) -> u64
     }
     if what == 5 {
         return MAX_MESSAGE as u64;
+    }
+    if what == 6 {
+        return GIVEN as u64;
+    }
+    if what == 7 {
+        return OUTGOING_BYTES as u64;
     }
     0
 }

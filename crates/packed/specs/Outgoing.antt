@@ -1,7 +1,7 @@
 -- A message to be sent, in bytes, at an offset of an answer.
 use Prim.Native.Nat.{ℕ}
 use mathlib.Core.List.{List, [], _∷_, _++_}
-use mathlib.Core.Bool.{cond}
+use mathlib.Core.Bool.{true, false, cond}
 use mathlib.Core.Path.{_≡_}
 use lib.ListN.{length, getD}
 use lib.Dec.{eqb}
@@ -9,6 +9,8 @@ use Rattle.protocol.specs.declared.FailureInfo.{FailureInfo}
 use Rattle.protocol.specs.declared.FailureInfo.the-variants.{NoBit, Bit}
 use Rattle.protocol.specs.declared.OutgoingContents.{OutgoingContents}
 use Rattle.protocol.specs.declared.Outgoing.{Outgoing}
+use Rattle.protocol.specs.Bytes.{zeros}
+use Rattle.packed.specs.declared.outgoing.UnpackedOutgoing.{UnpackedOutgoing}
 use Rattle.packed.specs.Bytes.{part, flag, flagAt, fourBytes, fourAt}
 use Rattle.packed.specs.Places.{idBytes, nonceBytes, hashBytes, outgoingKindAt, outgoingIdAt, outgoingSenderNonceAt, outgoingHasRecipNonceAt, outgoingRecipNonceAt, outgoingHasStatusAt, outgoingStatusAt, outgoingHashAt, outgoingFailureAt, outgoingHasNumberAt, outgoingNumberAt, outgoingEnd}
 
@@ -68,6 +70,10 @@ outgoingOf s =
       «recip_nonce» = record { bytes = part outgoingRecipNonceAt nonceBytes s };
       contents = outgoingContentsOf s;
     }
+
+-- the message that these bytes hold, where they are exactly as long as one; else what zeros say
+unfoldable pub unpackOutgoing : List ℕ → UnpackedOutgoing
+unpackOutgoing s = cond (eqb (length s) outgoingBytes) (record { ok = true; outgoing = outgoingOf s }) (record { ok = false; outgoing = outgoingOf (zeros outgoingBytes) })
 
 -- for the theorems: the arrays have their lengths, and no bit is 255
 pub record OutgoingSized (o : Outgoing) : Type 0 where

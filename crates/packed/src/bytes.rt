@@ -3,7 +3,7 @@ ghost use mathlib.Core.Path.{_≡_};
 ghost use mathlib.Core.List.{[], _∷_};
 ghost use Prim.Native.Nat.{_+_, _<_, _≤_};
 ghost use lib.ListN.{length};
-ghost use Rattle.packed.specs.Bytes.{part, Placed, twoAt, twoBytes, fourBytes, eightBytes, flag};
+ghost use Rattle.packed.specs.Bytes.{part, Placed, twoAt, twoBytes, fourAt, fourBytes, eightBytes, flag, flagAt};
 
 // 16 bytes from an offset.
 pub(crate) fn get_16(bytes: &[u8], at: usize) -> [u8; 16]
@@ -45,6 +45,29 @@ pub(crate) fn get_2(bytes: &[u8], at: usize) -> u16
     ensures { λ r. ⌜ r ≡ twoAt at (now (bytes .entry)) ⌝ }
 {
     256 * wide(bytes[at]) + wide(bytes[at + 1])
+}
+
+// A 16-bit number to count with.
+fn wide_16(x: u16) -> u32
+    ensures { λ r. ⌜ (r ≡ x) × (r < 65536) ⌝ }
+{
+    x as u32
+}
+
+// The number in four bytes.
+pub(crate) fn get_4(bytes: &[u8], at: usize) -> u32
+    requires { ⌜ at + 4 ≤ length (now bytes) ⌝ }
+    ensures { λ r. ⌜ r ≡ fourAt at (now (bytes .entry)) ⌝ }
+{
+    65536 * wide_16(get_2(bytes, at)) + wide_16(get_2(bytes, at + 2))
+}
+
+// The flag in a byte: set where it is 1.
+pub(crate) fn get_flag(bytes: &[u8], at: usize) -> bool
+    requires { ⌜ at + 1 ≤ length (now bytes) ⌝ }
+    ensures { λ r. ⌜ r ≡ flagAt at (now (bytes .entry)) ⌝ }
+{
+    bytes[at] == 1
 }
 
 // Each says too how long what it put in is: a caller has an array's length from here.

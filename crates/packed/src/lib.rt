@@ -3,6 +3,6 @@ pub mod answer;
 pub mod arrays;
 mod bytes;
 pub mod enrolment;
-mod outgoing;
+pub mod outgoing;
 mod places;
 pub mod table;

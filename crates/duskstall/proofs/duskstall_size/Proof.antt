@@ -10,4 +10,6 @@ duskstall-size-spec = tie.close (tie.spec
     (λ c. search tests)
     (λ c. search tests)
     (λ c. search tests)
+    (λ c. search tests)
+    (λ c. search tests)
     (λ c. search tests))

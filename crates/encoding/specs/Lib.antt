@@ -1,0 +1,11 @@
+pub mod Element
+pub mod Given
+pub mod Message
+pub mod Fits
+pub mod Write
+pub mod ReadBack
+pub mod WriteRules
+pub mod Parts
+pub mod W
+pub mod Orders
+pub mod Samples

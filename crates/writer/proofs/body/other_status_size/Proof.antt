@@ -1,0 +1,14 @@
+-- Nothing where it is 0.
+use borrow.Author.Needs.{needs}
+use borrow.Author.Tests.{eq-eqb, ne-eqb}
+use Rattle.writer.proofs.Sizes.{size-none}
+use Rattle.writer.proofs.body.other_status_size.Statement.{statement}
+use Rattle.writer.proofs.body.other_status_size.Tie as tie
+
+pub other-status-size-spec : {M : Type 1} → statement M
+other-status-size-spec =
+    tie.close
+    (tie.spec
+    (λ c. rw (eq-eqb _ _ (c .if1 .taken)) size-none)
+    (λ c κs. search needs)
+    (λ c. rw (ne-eqb _ _ (c .before .if1 .left)) (c .status-size .ensures)))

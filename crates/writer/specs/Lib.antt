@@ -1,0 +1,4 @@
+pub mod Puts
+pub mod Sizes
+pub mod Code
+pub mod Write
