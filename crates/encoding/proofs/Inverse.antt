@@ -25,8 +25,11 @@ bytes-by m a n i true q bytes =
     rw (getD-take n (drop a m) i 0 k, getD-drop a m i 0) (bytes (a + i))
 bytes-by m a n i false q bytes = rw (List·getD-eq-default (take n (drop a m)) 0 (ltb-false i (length (take n (drop a m))) q)) (lit< tt)
 
+pub bytes-part : (m : List ℕ) (a n : ℕ) → Bytes m → Bytes (take n (drop a m))
+bytes-part m a n bytes i = bytes-by m a n i (ltb i (length (take n (drop a m)))) refl bytes
+
 pub bytes-span : (m : List ℕ) (a e : ℕ) → Bytes m → Bytes (span m a e)
-bytes-span m a e bytes i = bytes-by m a (e - a) i (ltb i (length (span m a e))) refl bytes
+bytes-span m a e = bytes-part m a (e - a)
 
 no-bytes : (x : List ℕ) → length x ≡ 0 → x ≡ []
 no-bytes [] e = refl

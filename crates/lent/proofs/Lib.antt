@@ -20,3 +20,4 @@ pub mod Start
 pub mod Steps
 pub mod Theorem
 pub mod Witness
+pub mod Written

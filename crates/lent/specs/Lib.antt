@@ -12,3 +12,4 @@ pub mod ReadPlaces
 pub mod Reads
 pub mod SlotBytes
 pub mod Witness
+pub mod Written

@@ -6,3 +6,4 @@ pub mod Headers
 pub mod Bits
 pub mod Contents
 pub mod Writes
+pub mod WriteRules

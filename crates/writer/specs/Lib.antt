@@ -2,3 +2,4 @@ pub mod Puts
 pub mod Sizes
 pub mod Code
 pub mod Write
+pub mod WriteRules
