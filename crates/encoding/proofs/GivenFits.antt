@@ -27,7 +27,7 @@ use Rattle.encoding.proofs.Shapes.{typed-there, text-there, info-there}
 use Rattle.encoding.proofs.Requests.{Request, request-alone}
 use Rattle.encoding.proofs.Integer.{integer-ok}
 
-first-byte : (e : List ℕ) (tag : ℕ) (v : List ℕ) → e ≡ element tag v → byte e 0 ≡ tag
+pub first-byte : (e : List ℕ) (tag : ℕ) (v : List ℕ) → e ≡ element tag v → byte e 0 ≡ tag
 first-byte e tag v is = ap (λ (l : List ℕ). byte l 0) (is ∙ sym (append-nil (element tag v))) ∙ element-tag tag v []
 
 -- ## The header's fields

@@ -7,6 +7,7 @@ pub mod Answers
 pub mod Header
 pub mod Message
 pub mod Sound
+pub mod Apart
 pub mod Der
 pub mod Inverse
 pub mod Shapes
@@ -21,5 +22,10 @@ pub mod Only
 pub mod Forms
 pub mod W
 pub mod SameBytes
+pub mod Alone
+pub mod Walked
+pub mod WalkedBody
+pub mod EncodeBytes
+pub mod FitsBack
 pub mod Orders
 pub mod Samples

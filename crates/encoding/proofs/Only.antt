@@ -29,7 +29,7 @@ partsBytes (number n rest) = integer n ++ partsBytes rest
 partsBytes (node tag inside rest) = element tag (partsBytes inside) ++ partsBytes rest
 partsBytes (whole bytes rest) = bytes ++ partsBytes rest
 
-between-is : (m x y : List ℕ) (c r : Cursor) → Holds m c (x ++ y) → Holds m r y → r .end ≡ c .end → partOf m (wholeSpan c r) ≡ x
+pub between-is : (m x y : List ℕ) (c r : Cursor) → Holds m c (x ++ y) → Holds m r y → r .end ≡ c .end → partOf m (wholeSpan c r) ≡ x
 between-is m x y c r h k e =
     let one = split m x y (c .at) (c .end) (h .is) (h .size) in
     let at : c .at + length x ≡ r .at = omega (arith, h .size, k .size, length-append x y) in

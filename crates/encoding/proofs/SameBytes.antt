@@ -25,6 +25,7 @@ use Rattle.encoding.specs.Message.{namesBytes, optionsBytes, idsBytes, h
 use Rattle.encoding.specs.Fits.{contentsFit}
 use Rattle.encoding.specs.ReadBack.{contentsRead, orderOf, ifThere, GivenBack, ProtectionApart, SameBytesSameOrder}
 use Rattle.encoding.proofs.Holds.{some-bytes}
+use Rattle.encoding.proofs.Apart.{content-size}
 use Rattle.encoding.proofs.Status.{bit-size}
 use Rattle.encoding.proofs.WrittenKinds.{Kind, ir, ip, cr, cp, p10cr, kur, kup, pkiconf, error, certconf, kind-of, no-failure}
 use Rattle.encoding.proofs.Refusals.{unrefused}
@@ -35,10 +36,6 @@ unfolding headerBytes namesBytes optionsBytes idsBytes bodyBytes contentBytes
 protection-apart g o p = (refl, refl)
 
 -- ## Elements with the same bytes hold the same
-
-content-size : (tag : ℕ) (v : List ℕ) → length (element tag v) < 65536 → length v < 65536
-unfolding element
-content-size tag v h = omega (arith, length-append (headBytes tag (length v)) v)
 
 head-is : (tag : ℕ) (v : List ℕ) → tagOk tag ≡ true → length v < 65536
     → headOf (element tag v) ≡ Whole tag (length (headBytes tag (length v))) (length v)
@@ -103,7 +100,7 @@ error-same s f h few e =
 
 -- ## Sizes of what a message holds
 
-body-size : (g : Given) (o : Outgoing) → length (bodyBytes g o) + length (field 0xA0 0x03 (g .protection)) ≤ length (encode g o)
+pub body-size : (g : Given) (o : Outgoing) → length (bodyBytes g o) + length (field 0xA0 0x03 (g .protection)) ≤ length (encode g o)
 unfolding encode element
 body-size g o =
     let p : List ℕ = field 0xA0 0x03 (g .protection) in
@@ -115,7 +112,7 @@ body-size g o =
     let e = length-append p [] in
     omega arith
 
-field-same : (p q : Option (List ℕ)) → length (field 0xA0 0x03 p) < 65536 → ifThere p (field 0xA0 0x03 p) ≡ ifThere q (field 0xA0 0x03 q)
+pub field-same : (p q : Option (List ℕ)) → length (field 0xA0 0x03 p) < 65536 → ifThere p (field 0xA0 0x03 p) ≡ ifThere q (field 0xA0 0x03 q)
     → p ≡ q
 unfolding field tagOk
 field-same none none few e = refl

@@ -68,7 +68,7 @@ pub record Sequence (P : List ℕ → Type 0) (e : List ℕ) : Type 0 where
 -- ## Read by a shape
 
 module _ (m : List ℕ) (few : length m < 65536) where
-  tagged-reads : (tag : ℕ) (e : List ℕ) → Tagged tag e → Reads m (needOf m tag) e
+  pub tagged-reads : (tag : ℕ) (e : List ℕ) → Tagged tag e → Reads m (needOf m tag) e
   tagged-reads tag e p c rest h =
       need-took m c tag (p .content) rest few (p .tags) (subst (λ (l : List ℕ). Holds m c (l ++ rest)) (p .is) h) .left
 
@@ -98,7 +98,7 @@ module _ (m : List ℕ) (few : length m < 65536) where
       rw (more-is m c (e ++ x) h, lt-ltb 0 (length (e ++ x)) (omega (arith, length-append e x, long e p)))
       (many-reads P f each long x q n (f c) (omega (arith, length-append e x, long e p)) (each e p c x h))
 
-  sequence-reads : (P : List ℕ → Type 0) (f : Cursor → Cursor) → ((e : List ℕ) → P e → Reads m f e) → ((e : List ℕ) → P e → 0 < length e)
+  pub sequence-reads : (P : List ℕ → Type 0) (f : Cursor → Cursor) → ((e : List ℕ) → P e → Reads m f e) → ((e : List ℕ) → P e → 0 < length e)
       → (e : List ℕ) → Sequence P e → Reads m (sequenceBy m f) e
   unfolding sequenceBy allBy tagOk
   sequence-reads P f each long e p c rest h =
@@ -133,7 +133,7 @@ repeat-ok f takes n c = go (isOk c) refl
     go false q k = untrue (sym q ∙ sym (ap isOk (repeat-stop (λ k. k) f n c (stopped c q))) ∙ k)
 
 module _ (m : List ℕ) (bytes : Bytes m) where
-  tagged-only : (tag : ℕ) → Only m (needOf m tag) (Tagged tag)
+  pub tagged-only : (tag : ℕ) → Only m (needOf m tag) (Tagged tag)
   tagged-only tag c x h k =
       let i = need-only m bytes c x h tag k in
       record {
@@ -232,11 +232,11 @@ alone-shape f e P only k =
     let none-left : t .rest ≡ [] = at-end (f (startAt (length e))) (t .left) (z .1) in
     subst P (sym (t .is ∙ ap (λ (l : List ℕ). t .part ++ l) none-left ∙ append-nil (t .part))) (t .shape)
 
-typed-long : (e : List ℕ) → Typed e → 0 < length e
+pub typed-long : (e : List ℕ) → Typed e → 0 < length e
 typed-long e p =
     rw (p .is, ← append-nil (element 0x30 (element 0x06 (p .oid) ++ p .more))) (some-bytes 0x30 (element 0x06 (p .oid) ++ p .more) [])
 
-tagged-long : (tag : ℕ) (e : List ℕ) → Tagged tag e → 0 < length e
+pub tagged-long : (tag : ℕ) (e : List ℕ) → Tagged tag e → 0 < length e
 tagged-long tag e p = rw (p .is, ← append-nil (element tag (p .content))) (some-bytes tag (p .content) [])
 
 module _ (m e : List ℕ) (few : length m < 65536) (bytes : Bytes e) where

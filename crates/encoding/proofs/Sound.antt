@@ -151,33 +151,34 @@ first-of : {r : Check} (v w : Check) → r ≡ andThen v w → isSound r ≡ tru
 first-of Sound w e s = refl
 first-of (Fault at rule) w e s = sym (ap isSound e) ∙ s
 
+-- the first of whole elements
 module _
-    (d tag : ℕ) (v : List ℕ) (few : length v < 65536) (ok : tagOk tag ≡ true)
-    (sound : isSound (checkAt (suc d) 0 (element tag v ++ [])) ≡ true)
+    (d tag : ℕ) (v rest : List ℕ) (few : length v < 65536) (ok : tagOk tag ≡ true)
+    (sound : isSound (checkAt (suc d) 0 (element tag v ++ rest)) ≡ true)
   where
-    good-by : (f c k : Bool) → formOk tag ≡ f → constructed tag ≡ c → contentOk tag v ≡ k → Good d tag v
+    pub good-by : (f c k : Bool) → formOk tag ≡ f → constructed tag ≡ c → contentOk tag v ≡ k → Good d tag v
     unfolding elementOf judge
     good-by false c k qf qc qk =
-        let z = some d tag v [] few ok in
-        let e = first-is (suc d) 0 (element tag v ++ []) {o = Faulty 3} (simp (head-is d tag v [] few ok, qf)) (z .1) (omega arith) in
+        let z = some d tag v rest few ok in
+        let e = first-is (suc d) 0 (element tag v ++ rest) {o = Faulty 3} (simp (head-is d tag v rest few ok, qf)) (z .1) (omega arith) in
         absurd (true≢false (sym sound ∙ ap isSound e))
     good-by true true k qf qc qk =
-        let z = some d tag v [] few ok in
+        let z = some d tag v rest few ok in
         let e =
-        first-is (suc d) 0 (element tag v ++ []) {o = Constructed (start d tag v [] few) (length v)}
-        (simp (head-is d tag v [] few ok, qf, ne-eqb (suc d) 0 (λ e. omega arith), qc)) (z .1) (omega arith) in
-        let a : ℕ = 0 + start d tag v [] few in
-        let inner : contentAt (suc d) a (take (length v) (drop (start d tag v [] few) (element tag v ++ []))) ≡ checkAt d a v =
-        ap (contentAt (suc d) a) (content-is d tag v [] few) ∙ inner-check d a v in
+        first-is (suc d) 0 (element tag v ++ rest) {o = Constructed (start d tag v rest few) (length v)}
+        (simp (head-is d tag v rest few ok, qf, ne-eqb (suc d) 0 (λ e. omega arith), qc)) (z .1) (omega arith) in
+        let a : ℕ = 0 + start d tag v rest few in
+        let inner : contentAt (suc d) a (take (length v) (drop (start d tag v rest few) (element tag v ++ rest))) ≡ checkAt d a v =
+        ap (contentAt (suc d) a) (content-is d tag v rest few) ∙ inner-check d a v in
         let t =
-        first-of (contentAt (suc d) a (take (length v) (drop (start d tag v [] few) (element tag v ++ []))))
-        (checkAt (suc d) (0 + (start d tag v [] few + length v)) (drop (start d tag v [] few + length v) (element tag v ++ []))) e sound in
+        first-of (contentAt (suc d) a (take (length v) (drop (start d tag v rest few) (element tag v ++ rest))))
+        (checkAt (suc d) (0 + (start d tag v rest few + length v)) (drop (start d tag v rest few + length v) (element tag v ++ rest))) e sound in
         record { tags = ok; form = qf; fit = nested qc (sound-anywhere d a v (sym (ap isSound inner) ∙ t)) }
     good-by true false false qf qc qk =
-        let z = some d tag v [] few ok in
+        let z = some d tag v rest few ok in
         let e =
-        first-is (suc d) 0 (element tag v ++ []) {o = Faulty 4}
-        (simp (head-is d tag v [] few ok, qf, ne-eqb (suc d) 0 (λ e. omega arith), qc, content-is d tag v [] few, qk)) (z .1) (omega arith) in
+        first-is (suc d) 0 (element tag v ++ rest) {o = Faulty 4}
+        (simp (head-is d tag v rest few ok, qf, ne-eqb (suc d) 0 (λ e. omega arith), qc, content-is d tag v rest few, qk)) (z .1) (omega arith) in
         absurd (true≢false (sym sound ∙ ap isSound e))
     good-by true false true qf qc qk = record { tags = ok; form = qf; fit = primitive qc qk }
 
@@ -213,7 +214,7 @@ given-element d e bytes h = go (headOf e) refl
           content = v;
           is = is;
           small = small;
-          good = good-by d tag v small (form .1) sound (formOk tag) (constructed tag) (contentOk tag v) refl refl refl;
+          good = good-by d tag v [] small (form .1) sound (formOk tag) (constructed tag) (contentOk tag v) refl refl refl;
         }
 
 pub given-sound : (d : ℕ) {e : List ℕ} (rest : List ℕ) → Whole-element d e → SoundAt (suc d) rest → SoundAt (suc d) (e ++ rest)

@@ -5,6 +5,7 @@ pub mod Fits
 pub mod Write
 pub mod ReadBack
 pub mod WriteRules
+pub mod FitsRules
 pub mod Parts
 pub mod W
 pub mod Orders
