@@ -25,7 +25,7 @@ const END_ENTITY_HEAD_BYTES: usize = OUTCOME_BYTES + 1;
 /// The size of an outgoing message in an answer: kind, id, two nonces, status,
 /// hash, failure and certReqId; the second nonce, the status and the certReqId
 /// with whether they are there.
-const OUTGOING_BYTES: usize =
+pub const OUTGOING_BYTES: usize =
     1 + ID_BYTES + 2 * NONCE_BYTES + 3 + size_of::<u32>() + HASH_BYTES + 1 + size_of::<i32>();
 
 /// The size of the registrar's answer: its head and the outgoing message.
@@ -149,6 +149,32 @@ fn outgoing(bytes: &[u8; OUTGOING_BYTES]) -> Option<Outgoing> {
         failure: bit_of(*failure),
         number: flag(*has_number)?.then_some(i32::from_be_bytes(number.try_into().ok()?)),
     })
+}
+
+/// An outgoing message's bytes, as an answer holds them; what is absent is zero.
+pub fn outgoing_bytes(outgoing: &Outgoing) -> [u8; OUTGOING_BYTES] {
+    let flag = |there: bool| [u8::from(there)];
+    let fields: [&[u8]; 11] = [
+        &[outgoing.kind],
+        &outgoing.id.0,
+        &outgoing.sender_nonce.0,
+        &flag(outgoing.recip_nonce.is_some()),
+        &outgoing.recip_nonce.unwrap_or_default().0,
+        &flag(outgoing.status.is_some()),
+        &outgoing.status.unwrap_or_default().to_be_bytes(),
+        &outgoing.hash.unwrap_or_default().0,
+        &[outgoing.failure.unwrap_or(NO_BIT)],
+        &flag(outgoing.number.is_some()),
+        &outgoing.number.unwrap_or_default().to_be_bytes(),
+    ];
+    let mut bytes = [0; OUTGOING_BYTES];
+    let mut rest = &mut bytes[..];
+    for field in fields {
+        let (place, after) = rest.split_at_mut(field.len());
+        place.copy_from_slice(field);
+        rest = after;
+    }
+    bytes
 }
 
 fn flag(byte: u8) -> Option<bool> {

@@ -1,6 +1,7 @@
 //! The plain data that the registrar and the end entities are asked with and
 //! answer with, the same for the compiled library and for the model.
 
+use crate::answers::{self, OUTGOING_BYTES};
 use crate::limits::{FRESH_NONCE_BYTES, HASH_BYTES, ID_BYTES, NONCE_BYTES};
 use crate::refusal::Refusal;
 use std::fmt;
@@ -74,7 +75,8 @@ impl Outcome {
     }
 }
 
-/// A message that the host is to encode, protect and send.
+/// A message that the host is to protect and send; [`write`](crate::write)
+/// writes it.
 #[derive(Clone, Copy, Debug, PartialEq, Eq)]
 pub struct Outgoing {
     /// The body's choice: 0 (ir) to 24 (certConf).
@@ -92,6 +94,14 @@ pub struct Outgoing {
     /// certReqId, in a response and a certConf: 0, or -1 where the enrolment is
     /// by p10cr.
     pub number: Option<i32>,
+}
+
+impl Outgoing {
+    /// The bytes by which the library gives it to the host, and is given it to
+    /// write the message.
+    pub fn to_bytes(&self) -> [u8; OUTGOING_BYTES] {
+        answers::outgoing_bytes(self)
+    }
 }
 
 /// The registrar's answer.

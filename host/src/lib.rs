@@ -75,8 +75,9 @@ mod registrar;
 mod states;
 pub mod testing;
 mod types;
+mod writer;
 
-pub use answers::{END_ENTITY_ANSWER_BYTES, REGISTRAR_ANSWER_BYTES};
+pub use answers::{END_ENTITY_ANSWER_BYTES, OUTGOING_BYTES, REGISTRAR_ANSWER_BYTES};
 pub use end_entity::EndEntity;
 pub use ends::{
     Board, CertHash, Decision, EndEntityAnswer, FreshNonce, Nonce, Outcome, Outgoing,
@@ -90,6 +91,7 @@ pub use states::{
     TABLE_BYTES, TRANSACTION_BYTES, TRANSACTION_STATES,
 };
 pub use types::{Reading, Refused, Span};
+pub use writer::{protected_part, write, write_protected, Given};
 
 /// The README's example in Rust.
 #[cfg(doctest)]

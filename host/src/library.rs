@@ -9,11 +9,16 @@ mod foreign;
 /// Nothing has changed, as with the next two; the lowest that applies is given.
 pub const NO_STATE: u64 = 251;
 
-/// A call's number where an id, a nonce or a hash has another length.
+/// A call's number where an id, a nonce or a hash has another length; where a
+/// message is written, the order or the list of its parts.
 pub const BAD_LENGTH: u64 = 252;
 
 /// A call's number where the answer has no room.
 pub const NO_ROOM: u64 = 253;
+
+/// How many numbers say where the parts of a message to be written lie: two for
+/// each of eleven.
+pub const GIVEN: usize = 22;
 
 /// A good verdict. This number alone is good: -1, by which others tell a
 /// failure, is not.
@@ -54,17 +59,47 @@ pub fn check(bytes: &[u8]) -> u64 {
     unsafe { foreign::duskstall_check(bytes.as_ptr(), bytes.len()) }
 }
 
+/// Writes the message that an outgoing one says, around the parts that lie in
+/// the source: a number of [`GIVEN`] and the next are a part's start and length.
+/// Gives the size of the message, now the buffer's first bytes; or a refusal's
+/// number, or [`BAD_LENGTH`], times 2^32, with nothing changed.
+pub fn write(
+    outgoing: &[u8],
+    version: u32,
+    given: &[u64],
+    source: &[u8],
+    buffer: &mut [u8],
+) -> u64 {
+    // SAFETY: as said above the declarations.
+    unsafe {
+        foreign::duskstall_write(
+            outgoing.as_ptr(),
+            outgoing.len(),
+            version,
+            given.as_ptr(),
+            given.len(),
+            source.as_ptr(),
+            source.len(),
+            buffer.as_mut_ptr(),
+            buffer.len(),
+        )
+    }
+}
+
 /// The size that the library has for a table (0), an enrolment (1), the
-/// registrar's answer (2), an end entity's (3), the numbers of a reading (4)
-/// and the longest message (5); 0 for any other number.
+/// registrar's answer (2), an end entity's (3), the numbers of a reading (4),
+/// the longest message (5), the numbers that say where the parts of a message to
+/// be written lie (6) and an outgoing message (7); 0 for any other number.
 ///
 /// ```
-/// use duskstall_host::{library, ENROLMENT_BYTES, MESSAGE_LIMIT, TABLE_BYTES};
+/// use duskstall_host::{library, ENROLMENT_BYTES, MESSAGE_LIMIT, OUTGOING_BYTES, TABLE_BYTES};
 ///
 /// assert_eq!(library::size(0), TABLE_BYTES as u64);
 /// assert_eq!(library::size(1), ENROLMENT_BYTES as u64);
 /// assert_eq!(library::size(5), MESSAGE_LIMIT as u64);
-/// assert_eq!(library::size(6), 0);
+/// assert_eq!(library::size(6), library::GIVEN as u64);
+/// assert_eq!(library::size(7), OUTGOING_BYTES as u64);
+/// assert_eq!(library::size(8), 0);
 /// ```
 pub fn size(what: u8) -> u64 {
     // SAFETY: as said above the declarations.

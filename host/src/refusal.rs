@@ -18,7 +18,7 @@ use std::fmt;
 /// ```
 #[derive(Clone, Copy, Debug, PartialEq, Eq)]
 pub struct Refusal {
-    /// 1 to 21, 30, 31 or 32.
+    /// 1 to 21, 30 to 32 or 34 to 36.
     pub number: u8,
     /// The PKIFailureInfo bit that goes with it.
     pub bit: Option<u8>,
@@ -63,6 +63,9 @@ impl Refusal {
             30 => "host step, id not in the book",
             31 => "host step, state doesn't allow it",
             32 => "board start, kind not 0, 2, 4 or 7",
+            34 => "the result is over the message limit",
+            35 => "the buffer is too short",
+            36 => "a given element or field doesn't fit the grammar at its place",
             _ => "no number of the table",
         }
     }

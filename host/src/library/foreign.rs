@@ -10,6 +10,17 @@ extern "C" {
         fields_len: usize,
     ) -> u64;
     pub fn duskstall_check(bytes: *const u8, len: usize) -> u64;
+    pub fn duskstall_write(
+        outgoing: *const u8,
+        outgoing_len: usize,
+        version: u32,
+        given: *const u64,
+        given_len: usize,
+        source: *const u8,
+        source_len: usize,
+        buffer: *mut u8,
+        buffer_len: usize,
+    ) -> u64;
     pub fn duskstall_size(what: u8) -> u64;
     pub fn duskstall_registrar_empty(table: *mut u8, table_len: usize) -> u64;
     pub fn duskstall_registrar_message(
