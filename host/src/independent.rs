@@ -1,4 +1,5 @@
-//! The independent reader: CMP messages read by ordinary Rust.
+//! The independent reader: CMP messages read by ordinary Rust; and in `writer`
+//! the independent writer.
 //!
 //! It is written from the build description alone and shares no code, table or
 //! constant with the proved reader, which is compared with it and measured
@@ -18,6 +19,7 @@ mod rules;
 mod steps;
 #[cfg(test)]
 mod tests;
+pub mod writer;
 
 use crate::limits::MESSAGE_LIMIT;
 use crate::types::{Reading, Refused};

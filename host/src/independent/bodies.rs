@@ -51,7 +51,7 @@ fn cert_req_messages(inside: &mut Elements, reading: &mut Reading) -> Result<(),
 
 /// "Each a SEQUENCE that begins with a SEQUENCE that begins with INTEGER
 /// certReqId; the rest generic." The request message and its certReqId.
-fn request_message(requests: &mut Elements) -> Result<(Span, u32), Fault> {
+pub fn request_message(requests: &mut Elements) -> Result<(Span, u32), Fault> {
     let request = requests.expect(SEQUENCE)?;
     let mut parts = request.children();
     let mut fields = parts.expect(SEQUENCE)?.children();

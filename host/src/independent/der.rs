@@ -72,10 +72,15 @@ pub struct Elements<'a> {
 impl<'a> Elements<'a> {
     /// The whole input, which lies inside no element.
     pub fn of(input: &'a [u8]) -> Self {
+        Elements::inside(input, 0)
+    }
+
+    /// A run by itself that lies inside so many elements.
+    pub fn inside(run: &'a [u8], level: usize) -> Self {
         Elements {
-            upto: input,
+            upto: run,
             at: 0,
-            level: 0,
+            level,
         }
     }
 

@@ -55,14 +55,14 @@ fn header(parts: &mut Elements, reading: &mut Reading) -> Result<(), Fault> {
         reading.sender_nonce = tagged_primitive(fields, 5, OCTET_STRING)?;
         reading.recip_nonce = tagged_primitive(fields, 6, OCTET_STRING)?;
         reading.free_text = tagged(fields, 7, free_text)?;
-        reading.general_info = tagged(fields, 8, |inside| one_or_more(inside, type_and_value))?;
+        reading.general_info = tagged(fields, 8, general_infos)?;
         Ok(())
     })
 }
 
 /// "A GeneralName is one context element 0 to 8; 0, 3, 4, 5 constructed, the
 /// rest primitive."
-fn general_name(run: &mut Elements) -> Result<Span, Fault> {
+pub fn general_name(run: &mut Elements) -> Result<Span, Fault> {
     match run.peek() {
         Some(0xA0 | 0xA3 | 0xA4 | 0xA5 | 0x81 | 0x82 | 0x86 | 0x87 | 0x88) => generic(run),
         _ => Err(run.misfit()),
@@ -80,6 +80,11 @@ pub fn type_and_value(run: &mut Elements) -> Result<Span, Fault> {
         }
         Ok(sequence.whole())
     })
+}
+
+/// A SEQUENCE of one or more InfoTypeAndValue.
+pub fn general_infos(run: &mut Elements) -> Result<Span, Fault> {
+    one_or_more(run, type_and_value)
 }
 
 /// A SEQUENCE of one or more UTF8String.

@@ -105,7 +105,7 @@ fn integer_fits(content: &[u8]) -> bool {
 
 /// An unused count of 0 to 7, 0 if no data follows; the unused bits are zero.
 #[inline(always)]
-fn bit_string_fits(content: &[u8]) -> bool {
+pub fn bit_string_fits(content: &[u8]) -> bool {
     match content {
         [0] => true,
         [unused @ 0..=7, .., last] => last & ((1 << unused) - 1) == 0,

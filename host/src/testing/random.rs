@@ -6,7 +6,9 @@ mod elements;
 mod messages;
 
 pub use damage::{damage_bytes, damage_elements};
-pub use messages::message;
+pub use elements::{bits, generic};
+pub use messages::request_message;
+pub use messages::{algorithm, certificate, free_text, general_infos, general_name, message};
 
 /// A small pseudo-random generator (SplitMix64).
 pub struct Random(u64);
@@ -47,7 +49,7 @@ impl Random {
     }
 
     /// Bytes of any number, mostly a few.
-    fn filler(&mut self) -> Vec<u8> {
+    pub fn filler(&mut self) -> Vec<u8> {
         let len = match self.below(64) {
             0 => 126 + self.below(4),
             1 => 254 + self.below(4),

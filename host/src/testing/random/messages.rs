@@ -58,32 +58,36 @@ fn header_field(random: &mut Random, number: u8) -> Node {
         1 => algorithm(random),
         2..=6 => octets(random),
         7 => free_text(random),
-        _ => list(random, 1, algorithm),
+        _ => general_infos(random),
     }
 }
 
-fn general_name(random: &mut Random) -> Node {
+pub fn general_name(random: &mut Random) -> Node {
     match *random.pick(&[0xA0, 0x81, 0x82, 0xA3, 0xA4, 0xA4, 0xA5, 0x86, 0x87, 0x88]) {
         tag @ 0xA0.. => Node::constructed(tag, generics(random, 2)),
         tag => opaque(random, tag),
     }
 }
 
-fn algorithm(random: &mut Random) -> Node {
+pub fn algorithm(random: &mut Random) -> Node {
     let mut parts = vec![oid(random)];
     maybe(&mut parts, random, 2, |random| generic(random, 2));
     Node::sequence(parts)
 }
 
-fn free_text(random: &mut Random) -> Node {
+pub fn free_text(random: &mut Random) -> Node {
     list(random, 1, |random| opaque(random, 0x0C))
+}
+
+pub fn general_infos(random: &mut Random) -> Node {
+    list(random, 1, algorithm)
 }
 
 fn certificates(random: &mut Random) -> Node {
     list(random, 1, certificate)
 }
 
-fn certificate(random: &mut Random) -> Node {
+pub fn certificate(random: &mut Random) -> Node {
     Node::sequence(generics(random, 3))
 }
 
@@ -105,7 +109,7 @@ fn body(random: &mut Random) -> Node {
     Node::explicit(kind, inside)
 }
 
-fn request_message(random: &mut Random) -> Node {
+pub fn request_message(random: &mut Random) -> Node {
     let mut fields = vec![small_integer(random)];
     fields.extend(generics(random, 2));
     let mut parts = vec![Node::sequence(fields)];
