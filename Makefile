@@ -4,7 +4,7 @@ LIBRARY := target/staticlib/libduskstall.a
 CRATES := crates.txt $(shell find crates -name must-fail -prune -o \( -name '*.rt' -o -name '*.antt' \) -print)
 
 CFLAGS := -Wall -Wextra -Wpedantic -Werror -I include
-ENROL := examples/enrol.c examples/encode.c examples/host.c examples/show.c
+ENROL := examples/enrol.c examples/host.c examples/show.c
 BUILT := target/examples
 
 .PHONY: help demo example test bench clean
@@ -48,8 +48,8 @@ $(BUILT)/header_check_cpp: examples/header_check.c include/duskstall.h $(LIBRARY
 
 # The example in the header's comment, with a main around it.
 $(BUILT)/comment.c: include/duskstall.h Makefile | $(BUILT)
-	{ echo '#include "enrol.h"'; sed -n '/^ \*     int enrol(void)/,/^ \*     }$$/s/^ \*     //p' $<; \
+	{ echo '#include "enrol.h"'; sed -n '/^ \*     \(size_t compose\|int enrol\)(/,/^ \*     }$$/s/^ \*     //p' $<; \
 	  echo 'int main(void) { return enrol(); }'; } > $@
 
-$(BUILT)/comment: $(BUILT)/comment.c examples/encode.c examples/host.c examples/enrol.h $(LIBRARY)
-	$(CC) -std=c99 $(CFLAGS) -I examples $< examples/encode.c examples/host.c $(LIBRARY) -o $@
+$(BUILT)/comment: $(BUILT)/comment.c examples/host.c examples/enrol.h $(LIBRARY)
+	$(CC) -std=c99 $(CFLAGS) -I examples $< examples/host.c $(LIBRARY) -o $@

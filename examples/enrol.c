@@ -74,11 +74,38 @@ static uint64_t board_gets(struct ends *e)
     return code;
 }
 
-/* Encodes what the last call gave to be sent. */
+/* Puts the message on the line. */
+static void write_message(struct ends *e, const uint8_t *outgoing, const struct given *g)
+{
+    const uint32_t version = 2;
+    uint64_t written = duskstall_write(outgoing, DUSKSTALL_OUTGOING_BYTES, version, g->parts, DUSKSTALL_GIVEN,
+                                       g->source, g->len, e->message, sizeof e->message);
+    e->len = duskstall_write_size(written);
+    if (e->len == 0)
+        printf("  refused %u: %s\n", duskstall_write_code(written),
+               duskstall_refusal_words(duskstall_write_code(written)));
+    expect(e->len != 0, "a message written");
+}
+
+/* Writes what the last call gave to be sent, protects header and body, and writes it once more with the protection. */
 static void send_from(struct ends *e, const uint8_t *outgoing, int sender)
 {
+    uint64_t fields[DUSKSTALL_FIELDS];
+    uint8_t protection[1 + PROTECTION_BYTES] = {0}; /* no unused bits */
     expect(outgoing != NULL, "something to send");
-    e->len = outgoing != NULL ? encode(outgoing, sender, e->message) : 0;
+    e->len = 0;
+    if (outgoing == NULL)
+        return;
+    struct given g = given_for(outgoing, sender);
+    write_message(e, outgoing, &g);
+    if (duskstall_read(e->message, e->len, fields, DUSKSTALL_FIELDS) != 0) {
+        expect(0, "a message that reads");
+        return;
+    }
+    protection_of(sender, e->message + fields[DUSKSTALL_FIELD_HEADER], fields[DUSKSTALL_FIELD_PROTECTED_LENGTH],
+                  protection + 1);
+    give(&g, DUSKSTALL_GIVEN_PROTECTION, protection, sizeof protection);
+    write_message(e, outgoing, &g);
 }
 
 /* ---- The steps of an enrolment ---- */

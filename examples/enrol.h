@@ -1,4 +1,4 @@
-/* The example's parts: stand-ins for a host's work (host.c), messages in DER (encode.c), the transcript (show.c). */
+/* The example's parts: stand-ins for a host's work (host.c), and the transcript (show.c). */
 #ifndef ENROL_H
 #define ENROL_H
 
@@ -24,8 +24,18 @@ void protection_of(int sender, const uint8_t *header_and_body, size_t len, uint8
 /* Whose key made the protection of a message: a board's number, REGISTRAR, or NOBODY. */
 int verify(const uint8_t *message, size_t len);
 
-/* Encodes and protects an outgoing message. `message` has room for DUSKSTALL_MESSAGE_LIMIT bytes; gives the length. */
-size_t encode(const uint8_t *outgoing, int sender, uint8_t *message);
+/* The parts of a message that the host gives: their bytes in the source, where each lies in the numbers. */
+struct given {
+    uint8_t source[512];
+    size_t len;
+    uint64_t parts[DUSKSTALL_GIVEN];
+};
+
+/* Puts a part behind the others; `place` is one of enum duskstall_given. */
+void give(struct given *g, int place, const uint8_t *bytes, size_t len);
+
+/* All that a message by this sender needs, but its protection. */
+struct given given_for(const uint8_t *outgoing, int sender);
 
 /* What RFC 9810 calls a kind of message. */
 const char *kind_name(uint64_t kind);

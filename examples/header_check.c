@@ -52,6 +52,18 @@ FOLLOWS(DUSKSTALL_OUTGOING_BYTES, DUSKSTALL_OUTGOING_CERT_REQ_ID, 4);
 
 FOLLOWS(DUSKSTALL_FIELDS, DUSKSTALL_FIELD_PROTECTED_LENGTH, 1);
 
+FOLLOWS(DUSKSTALL_GIVEN_RECIPIENT, DUSKSTALL_GIVEN_SENDER, 2);
+FOLLOWS(DUSKSTALL_GIVEN_MESSAGE_TIME, DUSKSTALL_GIVEN_RECIPIENT, 2);
+FOLLOWS(DUSKSTALL_GIVEN_PROTECTION_ALG, DUSKSTALL_GIVEN_MESSAGE_TIME, 2);
+FOLLOWS(DUSKSTALL_GIVEN_SENDER_KID, DUSKSTALL_GIVEN_PROTECTION_ALG, 2);
+FOLLOWS(DUSKSTALL_GIVEN_RECIP_KID, DUSKSTALL_GIVEN_SENDER_KID, 2);
+FOLLOWS(DUSKSTALL_GIVEN_FREE_TEXT, DUSKSTALL_GIVEN_RECIP_KID, 2);
+FOLLOWS(DUSKSTALL_GIVEN_GENERAL_INFO, DUSKSTALL_GIVEN_FREE_TEXT, 2);
+FOLLOWS(DUSKSTALL_GIVEN_PROTECTION, DUSKSTALL_GIVEN_GENERAL_INFO, 2);
+FOLLOWS(DUSKSTALL_GIVEN_REQUEST, DUSKSTALL_GIVEN_PROTECTION, 2);
+FOLLOWS(DUSKSTALL_GIVEN_CERTIFICATE, DUSKSTALL_GIVEN_REQUEST, 2);
+FOLLOWS(DUSKSTALL_GIVEN, DUSKSTALL_GIVEN_CERTIFICATE, 2);
+
 /* ---- At run time ---- */
 
 static int failed;
@@ -347,6 +359,150 @@ static void cert_req_ids(void)
     }
 }
 
+/* What duskstall_write is lent, with room for more than is asked for. */
+struct written {
+    uint8_t outgoing[DUSKSTALL_OUTGOING_BYTES + 1];
+    uint64_t given[DUSKSTALL_GIVEN + 1];
+    uint8_t source[DUSKSTALL_MESSAGE_LIMIT + 1], buffer[DUSKSTALL_MESSAGE_LIMIT + 1];
+    size_t outgoing_len, given_len, buffer_len;
+};
+
+/* Where each part lies in the source below. */
+static const struct {
+    int given, field;
+    uint8_t start, len;
+} parts[] = {
+    {DUSKSTALL_GIVEN_SENDER, DUSKSTALL_FIELD_SENDER, 1, 2},
+    {DUSKSTALL_GIVEN_RECIPIENT, DUSKSTALL_FIELD_RECIPIENT, 3, 3},
+    {DUSKSTALL_GIVEN_MESSAGE_TIME, DUSKSTALL_FIELD_MESSAGE_TIME, 6, 1},
+    {DUSKSTALL_GIVEN_PROTECTION_ALG, DUSKSTALL_FIELD_PROTECTION_ALG, 7, 5},
+    {DUSKSTALL_GIVEN_SENDER_KID, DUSKSTALL_FIELD_SENDER_KID, 12, 1},
+    {DUSKSTALL_GIVEN_RECIP_KID, DUSKSTALL_FIELD_RECIP_KID, 13, 2},
+    {DUSKSTALL_GIVEN_FREE_TEXT, DUSKSTALL_FIELD_FREE_TEXT, 15, 4},
+    {DUSKSTALL_GIVEN_GENERAL_INFO, DUSKSTALL_FIELD_GENERAL_INFO, 19, 7},
+};
+
+/* An order of this kind without values, and all parts that every message may have. */
+static void to_write(struct written *w, uint8_t kind)
+{
+    static const uint8_t source[] = {
+        0x00, 0x81, 0x00, 0x82, 0x01, 0x01, 0x54, 0x30, 0x03, 0x06, 0x01, 0x2A, /* names, time, protectionAlg */
+        0x4B, 0x4C, 0x4D, 0x30, 0x02, 0x0C, 0x00,                               /* key identifiers, freeText */
+        0x30, 0x05, 0x30, 0x03, 0x06, 0x01, 0x2B,                               /* generalInfo */
+        0x00, 0x5A,                                                             /* protection, at 26 */
+        0x30, 0x05, 0x30, 0x03, 0x02, 0x01, 0x00,                               /* a request, at 28 */
+        0x30, 0x00                                                              /* a certificate, at 35 */
+    };
+    memset(w, 0, sizeof *w);
+    w->outgoing[DUSKSTALL_OUTGOING_KIND] = kind;
+    w->outgoing[DUSKSTALL_OUTGOING_FAILURE] = DUSKSTALL_NO_BIT;
+    memcpy(w->source, source, sizeof source);
+    for (size_t i = 0; i < sizeof parts / sizeof parts[0]; i++) {
+        w->given[parts[i].given] = parts[i].start;
+        w->given[parts[i].given + 1] = parts[i].len;
+    }
+    w->given[DUSKSTALL_GIVEN_PROTECTION] = 26;
+    w->given[DUSKSTALL_GIVEN_PROTECTION + 1] = 2;
+    w->outgoing_len = DUSKSTALL_OUTGOING_BYTES;
+    w->given_len = DUSKSTALL_GIVEN;
+    w->buffer_len = sizeof w->buffer;
+}
+
+/* The code, and the size if there is a message. What is not written is as it was. */
+static unsigned write_it(struct written *w, size_t *size)
+{
+    static struct written before;
+    memcpy(&before, w, sizeof before);
+    uint64_t written = duskstall_write(w->outgoing, w->outgoing_len, 2, w->given, w->given_len, w->source,
+                                       sizeof w->source, w->buffer, w->buffer_len);
+    *size = duskstall_write_size(written);
+    expect(duskstall_write_code(written) == 0, *size != 0, "a size or a code");
+    memcpy(before.buffer, w->buffer, *size);
+    expect(1, memcmp(&before, w, sizeof *w) == 0, "only the message's bytes change");
+    return duskstall_write_code(written);
+}
+
+/* Each given part is found where the reader's places say, and nothing else in between. */
+static void parts_are_read(const struct written *w, size_t size)
+{
+    uint64_t fields[DUSKSTALL_FIELDS];
+    expect(0, duskstall_read(w->buffer, size, fields, DUSKSTALL_FIELDS), "a written message");
+    expect(w->outgoing[DUSKSTALL_OUTGOING_KIND], fields[DUSKSTALL_FIELD_KIND], "its kind");
+    expect(2, fields[DUSKSTALL_FIELD_VERSION], "its version");
+    for (size_t i = 0; i < sizeof parts / sizeof parts[0]; i++) {
+        expect(parts[i].len, fields[parts[i].field + 1], "the length of a part");
+        expect(0, (uint64_t)memcmp(w->buffer + fields[parts[i].field], w->source + parts[i].start, parts[i].len),
+               "the bytes of a part");
+    }
+    expect(6, fields[DUSKSTALL_FIELD_PROTECTION + 1], "the protection");
+    expect(size, fields[DUSKSTALL_FIELD_HEADER] + fields[DUSKSTALL_FIELD_PROTECTED_LENGTH] + 6, "nothing behind it");
+}
+
+/* A pkiConf with all parts: written, then with each length one too low and too high, and refused by each number. */
+static void writes(void)
+{
+    static struct written w;
+    size_t size, none;
+    to_write(&w, DUSKSTALL_PKICONF);
+    expect(0, write_it(&w, &size), "a pkiConf");
+    parts_are_read(&w, size);
+    w.buffer_len = size;
+    expect(0, write_it(&w, &none), "a buffer just long enough");
+    w.buffer_len = size - 1;
+    expect(DUSKSTALL_REFUSED_BUFFER, write_it(&w, &none), "a buffer too short");
+    w.given[DUSKSTALL_GIVEN_SENDER + 1]--; /* a tag alone: no element, and the message as much shorter */
+    expect(DUSKSTALL_REFUSED_PART, write_it(&w, &none), "a name that is no element");
+    for (int more = -1; more <= 1; more += 2) {
+        to_write(&w, DUSKSTALL_PKICONF);
+        w.outgoing_len += (size_t)more;
+        expect(DUSKSTALL_BAD_LENGTH, write_it(&w, &none), "an order of another length");
+        to_write(&w, DUSKSTALL_PKICONF);
+        w.given_len += (size_t)more;
+        expect(DUSKSTALL_BAD_LENGTH, write_it(&w, &none), "numbers of another length");
+    }
+}
+
+/* A message just as long as it may be, and one that is longer by a byte, for which no buffer is long enough. */
+static void longest_written(void)
+{
+    static struct written w;
+    size_t size, none;
+    to_write(&w, DUSKSTALL_PKICONF);
+    w.given[DUSKSTALL_GIVEN_SENDER_KID + 1] = DUSKSTALL_MESSAGE_LIMIT / 2;
+    expect(0, write_it(&w, &size), "a long pkiConf");
+    w.given[DUSKSTALL_GIVEN_SENDER_KID + 1] += DUSKSTALL_MESSAGE_LIMIT - size;
+    expect(0, write_it(&w, &size), "the longest");
+    expect(DUSKSTALL_MESSAGE_LIMIT, size, "the longest");
+    w.given[DUSKSTALL_GIVEN_SENDER_KID + 1]++;
+    expect(DUSKSTALL_REFUSED_OVER_LIMIT, write_it(&w, &none), "one byte more");
+    w.buffer_len = 0;
+    expect(DUSKSTALL_REFUSED_OVER_LIMIT, write_it(&w, &none), "before the buffer's length");
+}
+
+/* A request goes with four kinds and a certificate with three, and with no other; ten kinds are written at all. */
+static void written_kinds(void)
+{
+    static struct written w;
+    size_t size;
+    for (int kind = 0; kind < 256; kind++) {
+        int request = kind == DUSKSTALL_IR || kind == DUSKSTALL_CR || kind == DUSKSTALL_P10CR || kind == DUSKSTALL_KUR;
+        int response = kind == DUSKSTALL_IP || kind == DUSKSTALL_CP || kind == DUSKSTALL_KUP;
+        int one = response || kind == DUSKSTALL_CERTCONF;
+        for (int given = 0; given < 4; given++) {
+            to_write(&w, (uint8_t)kind);
+            w.given[DUSKSTALL_GIVEN_REQUEST] = given & 1 ? 28 : 0;
+            w.given[DUSKSTALL_GIVEN_REQUEST + 1] = given & 1 ? 7 : 0;
+            w.given[DUSKSTALL_GIVEN_CERTIFICATE] = given & 2 ? 35 : 0;
+            w.given[DUSKSTALL_GIVEN_CERTIFICATE + 1] = given & 2 ? 2 : 0;
+            w.outgoing[DUSKSTALL_OUTGOING_HAS_CERT_REQ_ID] = (uint8_t)one;
+            w.outgoing[DUSKSTALL_OUTGOING_HAS_STATUS] = (uint8_t)(one || kind == DUSKSTALL_ERROR);
+            int fits = request || one || kind == DUSKSTALL_ERROR || kind == DUSKSTALL_PKICONF;
+            fits = fits && given == (request ? 1 : response ? 2 : 0);
+            expect(fits ? 0 : DUSKSTALL_REFUSED_PART, write_it(&w, &size), "a kind with its part");
+        }
+    }
+}
+
 /* The limits of the reader, and of the empty table's length. */
 static void limits(void)
 {
@@ -383,7 +539,9 @@ static void sizes(void)
     expect(DUSKSTALL_END_ENTITY_ANSWER_BYTES, duskstall_size(DUSKSTALL_SIZE_END_ENTITY_ANSWER), "size of its answer");
     expect(DUSKSTALL_FIELDS, duskstall_size(DUSKSTALL_SIZE_FIELDS), "how many fields");
     expect(DUSKSTALL_MESSAGE_LIMIT, duskstall_size(DUSKSTALL_SIZE_MESSAGE), "the longest message");
-    expect(0, duskstall_size(DUSKSTALL_SIZE_MESSAGE + 1), "no size");
+    expect(DUSKSTALL_GIVEN, duskstall_size(DUSKSTALL_SIZE_GIVEN), "how many numbers are given");
+    expect(DUSKSTALL_OUTGOING_BYTES, duskstall_size(DUSKSTALL_SIZE_OUTGOING), "size of what is to be sent");
+    expect(0, duskstall_size(DUSKSTALL_SIZE_OUTGOING + 1), "no size");
 }
 
 int main(void)
@@ -397,6 +555,9 @@ int main(void)
     verdicts_and_decisions();
     signed_numbers();
     cert_req_ids();
+    writes();
+    longest_written();
+    written_kinds();
     limits();
     sizes();
     if (!failed)

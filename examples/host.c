@@ -4,6 +4,7 @@
  */
 #include "enrol.h"
 
+#include <assert.h>
 #include <string.h>
 
 /* Numbered and not random, so that the transcript can be followed. */
@@ -59,6 +60,54 @@ void protection_of(int sender, const uint8_t *header_and_body, size_t len, uint8
     }
     uint64_t key = 0x6B65790000000000u + (uint64_t)sender;
     put_number(checksum(checksum(key, head, head_len), header_and_body, len), protection);
+}
+
+void give(struct given *g, int place, const uint8_t *bytes, size_t len)
+{
+    assert(g->len + len <= sizeof g->source);
+    memcpy(g->source + g->len, bytes, len);
+    g->parts[place] = g->len;
+    g->parts[place + 1] = len;
+    g->len += len;
+}
+
+/* What only some messages have: a CertReqMsg with an empty template, anything in a p10cr, the certificate. */
+static void give_contents(struct given *g, const uint8_t *outgoing)
+{
+    static const uint8_t request[] = {0x30, 0x07, 0x30, 0x05, 0x02, 0x01, 0x00, 0x30, 0x00};
+    static const uint8_t certification_request[] = {0x30, 0x00};
+    uint8_t certificate[256];
+    switch (outgoing[DUSKSTALL_OUTGOING_KIND]) {
+    case DUSKSTALL_IR:
+    case DUSKSTALL_CR:
+    case DUSKSTALL_KUR:
+        give(g, DUSKSTALL_GIVEN_REQUEST, request, sizeof request);
+        break;
+    case DUSKSTALL_P10CR:
+        give(g, DUSKSTALL_GIVEN_REQUEST, certification_request, sizeof certification_request);
+        break;
+    case DUSKSTALL_IP:
+    case DUSKSTALL_CP:
+    case DUSKSTALL_KUP:
+        if (duskstall_number(outgoing + DUSKSTALL_OUTGOING_STATUS, DUSKSTALL_STATUS_BYTES) == 0)
+            give(g, DUSKSTALL_GIVEN_CERTIFICATE, certificate,
+                 issue_certificate(outgoing + DUSKSTALL_OUTGOING_ID, certificate));
+    }
+}
+
+struct given given_for(const uint8_t *outgoing, int sender)
+{
+    /* directoryName with an empty Name; PasswordBasedMac, 1.2.840.113533.7.66.13 */
+    static const uint8_t name[] = {0xA4, 0x02, 0x30, 0x00};
+    static const uint8_t algorithm[] = {0x30, 0x0B, 0x06, 0x09, 0x2A, 0x86, 0x48, 0x86, 0xF6, 0x7D, 0x07, 0x42, 0x0D};
+    const uint8_t sender_kid = (uint8_t)sender;
+    struct given g = {{0}, 1, {0}}; /* no part lies at 0 */
+    give(&g, DUSKSTALL_GIVEN_SENDER, name, sizeof name);
+    give(&g, DUSKSTALL_GIVEN_RECIPIENT, name, sizeof name);
+    give(&g, DUSKSTALL_GIVEN_PROTECTION_ALG, algorithm, sizeof algorithm);
+    give(&g, DUSKSTALL_GIVEN_SENDER_KID, &sender_kid, 1);
+    give_contents(&g, outgoing);
+    return g;
 }
 
 /* The sender's number is in senderKID, one byte; the protection ends its element. */

@@ -1,6 +1,6 @@
 /*
- * Duskstall: a CMP core (RFC 9810) for C99 and C++11. A reader of messages, the calls of a registrar and the calls of
- * an end entity, each proved to answer as is said here, whatever bytes it is given.
+ * Duskstall: a CMP core (RFC 9810) for C99 and C++11. A reader and a writer of messages, the calls of a registrar and
+ * the calls of an end entity, each proved to answer as is said here, whatever bytes it is given.
  *
  * Link with libduskstall.a, which `rt staticlib duskstall` makes for x86-64 Linux. It needs memcpy and memset, and
  * nothing else: no heap, no clock, no locks, no variables of its own.
@@ -26,8 +26,9 @@
  *   - It draws ids and nonces: 16 random bytes each, none of them twice.
  *   - It issues certificates and hashes them to 32 bytes: at the registrar for issue, at the end entity for a response.
  *   - It decides whether a request is granted and whether a certificate is accepted.
- *   - It encodes, protects and sends every outgoing message. A response and a certConf have the certReqId that is given
- *     with them: 0, or -1 in an enrolment by p10cr. Its own ir, cr or kur has 0.
+ *   - It protects and sends every outgoing message. duskstall_write writes it; the host gives names, the request of an
+ *     ir, cr, p10cr or kur, the certificate of a response, and the protection. The request of an ir, cr or kur has the
+ *     certReqId 0; a response and a certConf get theirs from what is to be sent.
  *   - It hands each call the table or the enrolment as the last call on it left it: it puts no older copy back, empties
  *     the table only at the beginning, and starts an enrolment only over bytes that no enrolment needs any more.
  *
@@ -41,8 +42,9 @@
  * MEMORY
  *
  * The caller owns every array and lends it for the call; no pointer is kept. An array is a pointer and its length. The
- * pointer is not null, even where the length is 0. An array that is written (table, enrolment, answer, fields) overlaps
- * no other array of the same call: copy an id out of the table or of the answer before it is handed in with them.
+ * pointer is not null, even where the length is 0. An array that is written (table, enrolment, answer, fields, buffer)
+ * overlaps no other array of the same call: copy an id out of the table or of the answer before it is handed in with
+ * them.
  * Between calls the bytes of a table or an enrolment may be moved and stored; the next call gets them as they are then.
  *
  * THREADS
@@ -50,9 +52,28 @@
  * There are no global variables: calls on different tables and enrolments may run at the same time. On one table or one
  * enrolment one call at a time; the host locks it.
  *
- * ONE ENROLMENT, of board 7, with a line that loses nothing. The host's own are draw, encode, verify (whose key made
- * the protection), issue_certificate, hash_of and the number REGISTRAR; examples/ has stand-ins for them, and a longer
- * version that looks at every code returned, as a host does.
+ * ONE ENROLMENT, of board 7, with a line that loses nothing. The host's own are draw, issue_certificate, hash_of,
+ * protection_of (of header and body), verify (whose key made the protection), the number REGISTRAR, and given_for and
+ * give, which put parts of a message into g.source and note their places in g.parts; examples/ has stand-ins for them,
+ * and a longer version that looks at every code returned, as a host does.
+ *
+ *     size_t compose(const uint8_t *outgoing, int sender, uint8_t *message)
+ *     {
+ *         struct given g = given_for(outgoing, sender);                    // names, and a request or certificate
+ *         uint8_t protection[1 + PROTECTION_BYTES] = {0};                  // none of its bits is unused
+ *         uint64_t fields[DUSKSTALL_FIELDS], written;
+ *
+ *         written = duskstall_write(outgoing, DUSKSTALL_OUTGOING_BYTES, 2, g.parts, DUSKSTALL_GIVEN, g.source, g.len,
+ *                                   message, DUSKSTALL_MESSAGE_LIMIT);
+ *         if (duskstall_read(message, duskstall_write_size(written), fields, DUSKSTALL_FIELDS) != 0)
+ *             return 0;
+ *         protection_of(sender, message + fields[DUSKSTALL_FIELD_HEADER], fields[DUSKSTALL_FIELD_PROTECTED_LENGTH],
+ *                       protection + 1);
+ *         give(&g, DUSKSTALL_GIVEN_PROTECTION, protection, sizeof protection);
+ *         written = duskstall_write(outgoing, DUSKSTALL_OUTGOING_BYTES, 2, g.parts, DUSKSTALL_GIVEN, g.source, g.len,
+ *                                   message, DUSKSTALL_MESSAGE_LIMIT);
+ *         return duskstall_write_size(written);
+ *     }
  *
  *     int enrol(void)
  *     {
@@ -68,7 +89,7 @@
  *         draw(id), draw(nonce);                                           // the end entity sends an ir
  *         duskstall_end_entity_start(enrolment, sizeof enrolment, DUSKSTALL_IR, id, 16, nonce, 16,
  *                                    answer, sizeof answer);
- *         len = encode(duskstall_end_entity_outgoing(answer), 7, message);
+ *         len = compose(duskstall_end_entity_outgoing(answer), 7, message);
  *
  *         draw(nonce);                                                     // the registrar takes it
  *         good = verify(message, len) == 7 ? DUSKSTALL_VERDICT_GOOD : DUSKSTALL_VERDICT_BAD;
@@ -76,7 +97,7 @@
  *         hash_of(certificate, issue_certificate(id, certificate), hash);
  *         draw(nonce);                                                     // and grants it: an ip
  *         duskstall_registrar_issue(table, sizeof table, id, 16, nonce, 16, hash, 32, answer, sizeof answer);
- *         len = encode(duskstall_registrar_outgoing(answer), REGISTRAR, message);
+ *         len = compose(duskstall_registrar_outgoing(answer), REGISTRAR, message);
  *
  *         if (duskstall_read(message, len, fields, DUSKSTALL_FIELDS) != 0)
  *             return 1;
@@ -85,12 +106,12 @@
  *         good = verify(message, len) == REGISTRAR ? DUSKSTALL_VERDICT_GOOD : DUSKSTALL_VERDICT_BAD;
  *         duskstall_end_entity_message(enrolment, sizeof enrolment, message, len, good, DUSKSTALL_DECISION_ACCEPT,
  *                                      hash, 32, nonce, 16, answer, sizeof answer);
- *         len = encode(duskstall_end_entity_outgoing(answer), 7, message);
+ *         len = compose(duskstall_end_entity_outgoing(answer), 7, message);
  *
  *         draw(nonce);                                                     // the registrar takes it: a pkiConf
  *         good = verify(message, len) == 7 ? DUSKSTALL_VERDICT_GOOD : DUSKSTALL_VERDICT_BAD;
  *         duskstall_registrar_message(table, sizeof table, message, len, good, 7, nonce, 16, answer, sizeof answer);
- *         len = encode(duskstall_registrar_outgoing(answer), REGISTRAR, message);
+ *         len = compose(duskstall_registrar_outgoing(answer), REGISTRAR, message);
  *
  *         draw(nonce);                                                     // the end entity is Sure
  *         good = verify(message, len) == REGISTRAR ? DUSKSTALL_VERDICT_GOOD : DUSKSTALL_VERDICT_BAD;
@@ -111,7 +132,7 @@ extern "C" {
 
 /* ---- Sizes in bytes, and limits ---------------------------------------------------------------------------------- */
 
-#define DUSKSTALL_MESSAGE_LIMIT 16384           /* the longest message that is read */
+#define DUSKSTALL_MESSAGE_LIMIT 16384           /* the longest message that is read or written */
 #define DUSKSTALL_DEPTH_LIMIT 16                /* elements inside each other, the message being the first */
 #define DUSKSTALL_ID_BYTES 16                   /* a transactionID */
 #define DUSKSTALL_NONCE_BYTES 16                /* a senderNonce or recipNonce */
@@ -131,6 +152,7 @@ extern "C" {
 #define DUSKSTALL_REGISTRAR_ANSWER_BYTES (4 + DUSKSTALL_OFFSET_BYTES + 3 + DUSKSTALL_OUTGOING_BYTES)
 #define DUSKSTALL_END_ENTITY_ANSWER_BYTES (4 + DUSKSTALL_OFFSET_BYTES + 2 + DUSKSTALL_OUTGOING_BYTES)
 #define DUSKSTALL_FIELDS 47                     /* numbers, of 8 bytes each, that duskstall_read writes */
+#define DUSKSTALL_GIVEN 22                      /* numbers, of 8 bytes each, that duskstall_write is given */
 
 /* ---- What the host says of a message ----------------------------------------------------------------------------- */
 
@@ -157,15 +179,16 @@ enum duskstall_code {
     DUSKSTALL_REFUSED = 2,      /* the table or the enrolment is as it was; the answer has the number of the refusal */
     /* The call was not made, and no array has changed. The lowest that applies is returned. */
     DUSKSTALL_NO_STATE = 251,   /* the table or the enrolment is none: its length, or a state that is above 6 */
-    DUSKSTALL_BAD_LENGTH = 252, /* an id, a nonce or a hash of another length */
+    DUSKSTALL_BAD_LENGTH = 252, /* an id, a nonce, a hash, or what duskstall_write is given, of another length */
     DUSKSTALL_NO_ROOM = 253,    /* the answer is too short */
     DUSKSTALL_FEW_FIELDS = 255  /* duskstall_read only: fewer than DUSKSTALL_FIELDS */
 };
 
 /*
  * The refusals: name, number, bit of PKIFailureInfo (DUSKSTALL_NO_BIT: none), and when it applies. The lowest number
- * that applies is given. The words are those of the build description: its book is the table, a place is a slot, a
- * record is a transaction or an enrolment, an opening is an ir, cr, p10cr or kur, a board is the end entity.
+ * that applies is given. The words are those of the build description and its change requests: the book is the table, a
+ * place is a slot, a record is a transaction or an enrolment, an opening is an ir, cr, p10cr or kur, a board is the end
+ * entity; the result is the message that is written.
  */
 #define DUSKSTALL_REFUSALS(row)                                                                                        \
     row(DUSKSTALL_REFUSED_LENGTH, 1, 5, "length 0 or above 16,384")                                                    \
@@ -194,7 +217,10 @@ enum duskstall_code {
     row(DUSKSTALL_REFUSED_NO_CERTIFICATE, 21, 255, "status 0 or 1 and no plain certificate")                           \
     row(DUSKSTALL_REFUSED_STEP_ID, 30, 255, "host step, id not in the book")                                           \
     row(DUSKSTALL_REFUSED_STEP_STATE, 31, 255, "host step, state doesn't allow it")                                    \
-    row(DUSKSTALL_REFUSED_START_KIND, 32, 255, "board start, kind not 0, 2, 4 or 7")
+    row(DUSKSTALL_REFUSED_START_KIND, 32, 255, "board start, kind not 0, 2, 4 or 7")                                   \
+    row(DUSKSTALL_REFUSED_OVER_LIMIT, 34, 255, "the result is over the message limit")                                 \
+    row(DUSKSTALL_REFUSED_BUFFER, 35, 255, "the buffer is too short")                                                  \
+    row(DUSKSTALL_REFUSED_PART, 36, 255, "a given element or field doesn't fit the grammar at its place")
 
 #define DUSKSTALL_ROW(name, number, bit, words) name = number,
 enum duskstall_refusal { DUSKSTALL_REFUSALS(DUSKSTALL_ROW) };
@@ -461,6 +487,71 @@ uint64_t duskstall_read(const uint8_t *message, size_t message_len, uint64_t *fi
  */
 uint64_t duskstall_check(const uint8_t *bytes, size_t bytes_len);
 
+/* ---- The writer -------------------------------------------------------------------------------------------------- */
+
+/*
+ * The places of the numbers that duskstall_write is given. A part is two numbers: its start in the source at the place
+ * named here and its length at the next; 0 and 0 if it is absent. No part starts at the source's first byte (in a
+ * reading, too, what starts at 0 is absent). "Content": without tag and length.
+ */
+enum duskstall_given {
+    DUSKSTALL_GIVEN_SENDER = 0,         /* a GeneralName, with tag and length */
+    DUSKSTALL_GIVEN_RECIPIENT = 2,      /* likewise */
+    DUSKSTALL_GIVEN_MESSAGE_TIME = 4,   /* content; absent or there, as all that follows */
+    DUSKSTALL_GIVEN_PROTECTION_ALG = 6, /* its SEQUENCE */
+    DUSKSTALL_GIVEN_SENDER_KID = 8,     /* content */
+    DUSKSTALL_GIVEN_RECIP_KID = 10,     /* content */
+    DUSKSTALL_GIVEN_FREE_TEXT = 12,     /* its SEQUENCE */
+    DUSKSTALL_GIVEN_GENERAL_INFO = 14,  /* its SEQUENCE */
+    DUSKSTALL_GIVEN_PROTECTION = 16,    /* content of the BIT STRING: how many bits are unused, and the bits */
+    /* There exactly in these messages: */
+    DUSKSTALL_GIVEN_REQUEST = 18,    /* ir, cr, kur: the CertReqMsg; p10cr: any element; with tag and length */
+    DUSKSTALL_GIVEN_CERTIFICATE = 20 /* ip, cp, kup of status 0: a SEQUENCE, with tag and length */
+};
+
+/*
+ * Writes the message that is to be sent: header, body and, if it is given, protection, in the only DER that there is
+ * for it. A certConf's status 0 is left out (RFC 9810 5.3.18: that says acceptance); no message has extraCerts. Reading
+ * the message gives back what it was written from, each part at its place.
+ *
+ *   outgoing, outgoing_len   DUSKSTALL_OUTGOING_BYTES: as an answer holds it. A HAS_ byte is yes by 1 and no by every
+ *                            other number
+ *   version                  pvno, 32 bits of two's complement
+ *   given, given_len         DUSKSTALL_GIVEN numbers: where the parts lie
+ *   source, source_len       any bytes, any number of them, which the parts lie in
+ *   buffer, buffer_len       written: the message's bytes, and no others
+ *
+ * Returns the size of the message, which is at the buffer's beginning. Or, with nothing changed, a number times 2^32:
+ * DUSKSTALL_BAD_LENGTH where outgoing or given is of another length; else DUSKSTALL_REFUSED_OVER_LIMIT (34),
+ * DUSKSTALL_REFUSED_BUFFER (35) or DUSKSTALL_REFUSED_PART (36), the lowest that applies. duskstall_write_size and
+ * duskstall_write_code tell them apart.
+ *
+ * 36: a part is not one element that fits the message there, by its own rule and with the depth that is left; it starts
+ * at the source's first byte, or reaches outside; it is missing, or given where the message has none; or outgoing is of
+ * no kind that is sent, lacks something, or has what its kind has not (unset bytes are zero). What the calls of both
+ * ends gave to be sent fits as it is. 34 and 35 are told by the message's size, whether or not the parts fit: of a part
+ * that reaches outside, as much counts as the source has.
+ *
+ * To protect a message: write it with PROTECTION_ALG and without PROTECTION, and read it, which gives HEADER, BODY and
+ * PROTECTED_LENGTH; make the protection of the SEQUENCE of both, as it is verified; write again with PROTECTION. Header
+ * and body come out the same.
+ */
+uint64_t duskstall_write(const uint8_t *outgoing, size_t outgoing_len, uint32_t version, const uint64_t *given,
+                         size_t given_len, const uint8_t *source, size_t source_len, uint8_t *buffer,
+                         size_t buffer_len);
+
+/* The size of the message that was written; 0 if none was. */
+static inline size_t duskstall_write_size(uint64_t written)
+{
+    return written >> 32 == 0 ? (size_t)written : 0;
+}
+
+/* 0 if a message was written; else DUSKSTALL_BAD_LENGTH, or the number of the refusal. */
+static inline unsigned duskstall_write_code(uint64_t written)
+{
+    return (unsigned)(written >> 32);
+}
+
 /* ---- Sizes, as the library has them ------------------------------------------------------------------------------ */
 
 enum duskstall_sized {
@@ -469,7 +560,9 @@ enum duskstall_sized {
     DUSKSTALL_SIZE_REGISTRAR_ANSWER = 2,  /* DUSKSTALL_REGISTRAR_ANSWER_BYTES */
     DUSKSTALL_SIZE_END_ENTITY_ANSWER = 3, /* DUSKSTALL_END_ENTITY_ANSWER_BYTES */
     DUSKSTALL_SIZE_FIELDS = 4,            /* DUSKSTALL_FIELDS */
-    DUSKSTALL_SIZE_MESSAGE = 5            /* DUSKSTALL_MESSAGE_LIMIT */
+    DUSKSTALL_SIZE_MESSAGE = 5,           /* DUSKSTALL_MESSAGE_LIMIT */
+    DUSKSTALL_SIZE_GIVEN = 6,             /* DUSKSTALL_GIVEN */
+    DUSKSTALL_SIZE_OUTGOING = 7           /* DUSKSTALL_OUTGOING_BYTES */
 };
 
 /*

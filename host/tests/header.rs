@@ -10,10 +10,10 @@ mod refusals;
 use duskstall_host::testing::der::hex;
 use duskstall_host::testing::messages;
 use duskstall_host::testing::papers::with_comma;
-use duskstall_host::{compiled, library, Board, CertHash, Nonce, Refusal, TransactionId};
+use duskstall_host::{compiled, library, Board, CertHash, Given, Nonce, Refusal, TransactionId};
 use duskstall_host::{Enrolment, Reading, Span, Transaction, ENROLMENT_STATES, TRANSACTION_STATES};
 use duskstall_host::{END_ENTITY_ANSWER_BYTES, ENROLMENT_BYTES, REGISTRAR_ANSWER_BYTES};
-use duskstall_host::{MESSAGE_LIMIT, SLOTS, TABLE_BYTES, TRANSACTION_BYTES};
+use duskstall_host::{MESSAGE_LIMIT, OUTGOING_BYTES, SLOTS, TABLE_BYTES, TRANSACTION_BYTES};
 use std::collections::{BTreeMap, BTreeSet};
 use std::fmt::Debug;
 
@@ -82,6 +82,8 @@ fn sizes_and_codes() {
         ("NONCE_BYTES", size_of::<Nonce>()),
         ("HASH_BYTES", size_of::<CertHash>()),
         ("FIELDS", compiled::FIELDS),
+        ("GIVEN", library::GIVEN),
+        ("OUTGOING_BYTES", OUTGOING_BYTES),
         ("NO_STATE", code(library::NO_STATE)),
         ("BAD_LENGTH", code(library::BAD_LENGTH)),
         ("NO_ROOM", code(library::NO_ROOM)),
@@ -248,6 +250,48 @@ fn parts(reading: &Reading) -> [(&'static str, Span); 20] {
         ("REQUEST", reading.request),
     ]
 }
+
+/// Each part of a message that is written, by its place in the header and as this
+/// crate lays it out: the parts of these lengths lie one after the other from 1.
+#[test]
+fn places_of_what_is_given() {
+    let all = [0; GIVEN_NAMES.len() + 1];
+    let part = |number: usize| Some(&all[..number + 1]);
+    let given = Given {
+        message_time: part(2),
+        protection_alg: part(3),
+        sender_kid: part(4),
+        recip_kid: part(5),
+        free_text: part(6),
+        general_info: part(7),
+        protection: part(8),
+        request: part(9),
+        certificate: part(10),
+        ..Given::new(2, &all[..1], &all[..2])
+    };
+    let (source, places) = given.laid_out();
+    let mut start = 1;
+    for (number, name) in GIVEN_NAMES.iter().enumerate() {
+        let place = value(&format!("GIVEN_{name}"));
+        assert_eq!(places[place..place + 2], [start, number as u64 + 1]);
+        start += number as u64 + 1;
+    }
+    assert_eq!(source.len() as u64, start);
+}
+
+const GIVEN_NAMES: [&str; library::GIVEN / 2] = [
+    "SENDER",
+    "RECIPIENT",
+    "MESSAGE_TIME",
+    "PROTECTION_ALG",
+    "SENDER_KID",
+    "RECIP_KID",
+    "FREE_TEXT",
+    "GENERAL_INFO",
+    "PROTECTION",
+    "REQUEST",
+    "CERTIFICATE",
+];
 
 /// The rows of the table of refusals: number, bit and words.
 fn rows() -> Vec<(u8, Option<u8>, &'static str)> {

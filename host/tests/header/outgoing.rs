@@ -2,7 +2,7 @@
 //! header's places in the library's bytes and as this crate gives it.
 
 use super::value;
-use duskstall_host::testing::exchange::Parts;
+use duskstall_host::testing::writing::written;
 use duskstall_host::{library, Board, CertHash, Decision, EndEntity, FreshNonce, Nonce, Outgoing};
 use duskstall_host::{Enrolment, ENROLMENT_BYTES, REGISTRAR_ANSWER_BYTES};
 use duskstall_host::{Registrar, TransactionId, Verdict, END_ENTITY_ANSWER_BYTES};
@@ -27,7 +27,7 @@ fn by_places(answer: &[u8], end: &str) -> Outgoing {
     let at = |name: &str| &bytes[value(&format!("OUTGOING_{name}"))..];
     let has = |name: &str| at(name)[0] == 1;
     let kind = at("KIND")[0];
-    Outgoing {
+    let outgoing = Outgoing {
         kind,
         id: TransactionId(chunk(at("ID"))),
         sender_nonce: Nonce(chunk(at("SENDER_NONCE"))),
@@ -36,12 +36,15 @@ fn by_places(answer: &[u8], end: &str) -> Outgoing {
         hash: (usize::from(kind) == value("CERTCONF")).then(|| CertHash(chunk(at("HASH")))),
         failure: Some(at("FAILURE")[0]).filter(|bit| usize::from(*bit) != value("NO_BIT")),
         number: has("HAS_CERT_REQ_ID").then(|| i32::from_be_bytes(chunk(at("CERT_REQ_ID")))),
-    }
+    };
+    // The same bytes are handed in for it to be written.
+    assert_eq!(bytes[..value("OUTGOING_BYTES")], outgoing.to_bytes());
+    outgoing
 }
 
 /// The same message at the registrar, by the library and by this crate.
 fn takes(registrar: &mut Registrar, message: &Outgoing, nonce: FreshNonce) -> Pair {
-    let message = Parts::of(message).encode();
+    let message = written(message);
     let mut table = *registrar.as_bytes();
     let mut answer = [0; REGISTRAR_ANSWER_BYTES];
     library::registrar_message(&mut table, &message, 1, 3, &nonce.0, &mut answer);
@@ -68,7 +71,7 @@ fn starts(kind: u8, nonce: FreshNonce) -> (EndEntity, Pair) {
 }
 
 fn accepts(board: &mut EndEntity, response: &Outgoing, nonce: FreshNonce) -> Pair {
-    let message = Parts::of(response).encode();
+    let message = written(response);
     let mut enrolment = *board.as_bytes();
     let mut answer = [0; END_ENTITY_ANSWER_BYTES];
     let (state, hash) = (&mut enrolment, &HASH.0);
@@ -82,7 +85,7 @@ fn enrolment(kind: u8) -> [Pair; 5] {
     let nonce = |number| FreshNonce([number; 16]);
     let mut registrar = Registrar::new();
     let (mut board, request) = starts(kind, nonce(4));
-    registrar.message(&Parts::of(&request.0).encode(), BOARD, nonce(5));
+    registrar.message(&written(&request.0), BOARD, nonce(5));
     let error = takes(&mut registrar, &request.0, nonce(6));
     let response = issues(&mut registrar, nonce(7));
     let cert_conf = accepts(&mut board, &response.0, nonce(8));

@@ -2,9 +2,11 @@
 
 use duskstall_host::testing::exchange::{Certificate, Parts};
 use duskstall_host::testing::random::Random;
+use duskstall_host::testing::writing::order;
+use duskstall_host::{write, Enrolment, FreshNonce, Given, Transaction, TransactionId, Verdict};
 use duskstall_host::{Board, CertHash, Decision, EndEntity, Nonce, Outcome, Refusal, Registrar};
-use duskstall_host::{Enrolment, FreshNonce, Transaction, TransactionId, Verdict};
-use duskstall_host::{ENROLMENT_STATES, SLOTS, TRANSACTION_BYTES, TRANSACTION_STATES};
+use duskstall_host::{ENROLMENT_STATES, MESSAGE_LIMIT, SLOTS};
+use duskstall_host::{TRANSACTION_BYTES, TRANSACTION_STATES};
 use std::collections::{BTreeMap, BTreeSet};
 
 const CALLS: usize = 200_000;
@@ -96,6 +98,7 @@ fn call(random: &mut Random) -> Option<Refusal> {
         Verdict::Good(Board(2)),
     ]);
     let outcome: Outcome = match random.below(16) {
+        8 => return writes(random),
         0 => registrar.issue(id, nonce, decision.hash).outcome,
         1 => registrar.close(id).outcome,
         2 => board.time_out().outcome,
@@ -108,6 +111,19 @@ fn call(random: &mut Random) -> Option<Refusal> {
         _ => registrar.message(&message, verdict, nonce).outcome,
     };
     outcome.refusal()
+}
+
+/// A message with a name, an identifier and a buffer of some lengths.
+fn writes(random: &mut Random) -> Option<Refusal> {
+    let bytes = vec![0x88; MESSAGE_LIMIT];
+    let name = *random.pick(&[&[0x88, 0x00][..], &[0x88]]);
+    let given = Given {
+        sender_kid: random.once_in(2).then_some(&bytes),
+        ..Given::new(2, name, name)
+    };
+    let mut buffer = [0; 100];
+    let room = *random.pick(&[buffer.len(), 0]);
+    write(&order(19), &given, &mut buffer[..room]).err()
 }
 
 /// The numbers of the refusals and the bits that came with each.
