@@ -1,39 +1,53 @@
 //! The host's side of Duskstall: the compiled proved library behind safe types,
-//! and what it is held to, an independent reader of CMP messages and a model of
-//! both ends in ordinary Rust.
+//! and what it is held to, an independent reader and writer of CMP messages and a
+//! model of both ends in ordinary Rust.
 //!
-//! [`Registrar`] and [`EndEntity`] run the two ends of an enrolment; `compiled`
-//! reads a message. `independent` and `model` are written from the build
-//! description alone; `testing` makes messages for the tests.
+//! [`Registrar`] and [`EndEntity`] run the two ends of an enrolment; [`write`] and
+//! [`write_protected`] write the messages that they give to be sent, and `compiled`
+//! reads a message. `independent` and `model` are written from the papers alone;
+//! `testing` makes messages for the tests.
 //!
 //! One enrolment, with a line that loses nothing:
 //!
 //! ```
-//! use duskstall_host::testing::exchange::Parts;
 //! use duskstall_host::{
-//!     Board, CertHash, Decision, EndEntity, EnrolmentState, FreshNonce, Registrar, TransactionId,
-//!     TransactionState, Verdict,
+//!     write_protected, Board, CertHash, Decision, EndEntity, EnrolmentState, FreshNonce, Given,
+//!     Outgoing, Refusal, Registrar, TransactionId, TransactionState, Verdict,
 //! };
 //!
-//! // The host draws ids and nonces, hashes certificates and verifies protection.
+//! // The host draws ids and nonces, hashes certificates, makes and verifies protection.
 //! let id = TransactionId([0xA1; 16]);
 //! let nonce = |number| FreshNonce([number; 16]);
 //! let hash = CertHash([0xAB; 32]);
 //! let from_board = Verdict::Good(Board(7));
-//! let encode = |outgoing| Parts::of(&outgoing).encode();
+//! let protect = |part: &[u8]| vec![part.len() as u8]; // no protection
+//!
+//! // It gives names and the rest of a message in DER, here as little as there may be.
+//! let name = [0xA4, 0x02, 0x30, 0x00];
+//! let given = Given {
+//!     protection_alg: Some(&[0x30, 0x03, 0x06, 0x01, 0x2A]),
+//!     ..Given::new(2, &name, &name)
+//! };
+//! let message = |outgoing: Outgoing, given: Given| -> Result<Vec<u8>, Refusal> {
+//!     let mut buffer = [0; 1_000];
+//!     let size = write_protected(&outgoing, &given, &mut buffer, protect)?;
+//!     Ok(buffer[..size].to_vec())
+//! };
 //!
 //! let mut registrar = Registrar::new();
 //! let (mut board, request) = EndEntity::start(0, id, nonce(1))?;
-//! registrar.message(&encode(request), from_board, nonce(2));
+//! let asked = Given { request: Some(&[0x30, 0x05, 0x30, 0x03, 0x02, 0x01, 0x00]), ..given };
+//! registrar.message(&message(request, asked)?, from_board, nonce(2));
 //!
 //! let response = registrar.issue(id, nonce(2), hash).outgoing.expect("an ip");
+//! let granted = Given { certificate: Some(&[0x30, 0x00]), ..given };
 //! let decision = Decision { accept: true, hash };
-//! let answer = board.message(&encode(response), true, decision, nonce(3));
+//! let answer = board.message(&message(response, granted)?, true, decision, nonce(3));
 //! let cert_conf = answer.outgoing.expect("a certConf");
 //!
-//! let answer = registrar.message(&encode(cert_conf), from_board, nonce(4));
+//! let answer = registrar.message(&message(cert_conf, given)?, from_board, nonce(4));
 //! let pkiconf = answer.outgoing.expect("a pkiconf");
-//! board.message(&encode(pkiconf), true, decision, nonce(5));
+//! board.message(&message(pkiconf, given)?, true, decision, nonce(5));
 //!
 //! let (_, transaction) = registrar.find(id).expect("it is open");
 //! assert_eq!(transaction.state, TransactionState::Confirmed);

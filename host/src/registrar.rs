@@ -12,14 +12,14 @@ use crate::states::{Transaction, TransactionState, TABLE_BYTES, TRANSACTION_BYTE
 /// as it was.
 ///
 /// ```
-/// use duskstall_host::testing::exchange::Parts;
+/// use duskstall_host::testing::writing::written;
 /// use duskstall_host::{Board, CertHash, EndEntity, FreshNonce, Nonce, Outcome, Registrar};
 /// use duskstall_host::{Slot, TransactionId, TransactionState, Verdict};
 ///
 /// let id = TransactionId([0x11; 16]);
 /// let (_, request) = EndEntity::start(0, id, FreshNonce([0x22; 16]))?;
-/// // The host encodes and protects what is to be sent.
-/// let bytes = Parts::of(&request).encode();
+/// // The host has the library write what is to be sent, and protects it.
+/// let bytes = written(&request);
 ///
 /// let mut registrar = Registrar::new();
 /// let answer = registrar.message(&bytes, Verdict::Good(Board(7)), FreshNonce([0x33; 16]));

@@ -1,12 +1,10 @@
 //! Both ends of the compiled library with OpenSSL's CMP over HTTP on loopback,
-//! where the machine has it, by messages that our ends decided and that the host
-//! here encoded and protected: OpenSSL's client enrols at our registrar, and our
+//! where the machine has it, by messages that our ends decided, the library wrote
+//! and the host here protected: OpenSSL's client enrols at our registrar, and our
 //! end entity at OpenSSL's mock server.
 
 #[path = "openssl_live/draw.rs"]
 mod draw;
-#[path = "openssl_live/encode.rs"]
-mod encode;
 #[path = "openssl_live/end_entity.rs"]
 mod end_entity;
 #[path = "openssl_live/hmac.rs"]
@@ -21,6 +19,8 @@ mod protection;
 mod registrar;
 #[path = "openssl_live/request.rs"]
 mod request;
+#[path = "openssl_live/sending.rs"]
+mod sending;
 #[path = "openssl_live/sha1.rs"]
 mod sha1;
 

@@ -6,8 +6,8 @@ use super::messages::{algorithm, certificate, free_text, name, request_message};
 use crate::ends::{CertHash, Nonce, Outgoing, TransactionId};
 use crate::independent::writer::{self, Misfit, Part, Unwritten};
 use crate::library::{self, GIVEN};
-use crate::limits::MESSAGE_LIMIT;
 use crate::{write, Given, OUTGOING_BYTES};
+use std::sync::LazyLock;
 
 /// The kinds that are written.
 pub const KINDS: [u8; 10] = [0, 1, 2, 3, 4, 7, 8, 19, 23, 24];
@@ -149,16 +149,23 @@ impl Default for Elements {
 }
 
 /// The message for what an end gave to be sent, written by the library: in
-/// version 2, with an empty request or a certificate where there is one. Its
-/// protection says nothing.
+/// version 2, with a request or a certificate where there is one. Its protection
+/// says nothing.
 pub fn written(outgoing: &Outgoing) -> Vec<u8> {
-    let elements = Elements::new();
+    written_in(2, outgoing)
+}
+
+/// The same in any version.
+pub fn written_in(version: i32, outgoing: &Outgoing) -> Vec<u8> {
+    static ELEMENTS: LazyLock<Elements> = LazyLock::new(Elements::new);
     let given = Given {
-        protection_alg: Some(&elements.algorithm),
+        version,
+        protection_alg: Some(&ELEMENTS.algorithm),
         protection: Some(&[0x00, 0x5A, 0x00]),
-        ..elements.least(outgoing)
+        ..ELEMENTS.least(outgoing)
     };
-    let mut buffer = vec![0; MESSAGE_LIMIT];
+    // More than any message of these has.
+    let mut buffer = vec![0; 512];
     let size = write(outgoing, &given, &mut buffer).expect("the ends' orders can be written");
     buffer.truncate(size);
     buffer

@@ -7,6 +7,7 @@ use super::history::Sender;
 use super::world::World;
 use duskstall_host::testing::exchange::Parts;
 use duskstall_host::testing::random::Random;
+use duskstall_host::testing::writing::written_in;
 use duskstall_host::{Board, Decision, TransactionId, TransactionState, Verdict, SLOTS};
 
 /// How many boards there are.
@@ -92,17 +93,18 @@ impl Line {
 
     /// Hands a message to an end.
     fn message(&mut self, world: &mut World, random: &mut Random, coverage: &mut Coverage) {
-        let mut parts = if random.once_in(self.invented) {
-            invent(world, random)
+        let (mut parts, mut written) = if random.once_in(self.invented) {
+            (invent(world, random), None)
         } else {
             self.sent(world, random)
         };
         if random.once_in(self.altered) {
             alter(&mut parts, world, random);
+            written = None;
         }
         let message = match random.below(64) {
             0 => damage(&parts, random),
-            _ => parts.encode(),
+            _ => written.unwrap_or_else(|| parts.encode()),
         };
         let to_registrar = matches!(parts.kind, 0 | 2 | 4 | 7 | 24);
         if to_registrar != random.once_in(self.misdirected) {
@@ -118,8 +120,9 @@ impl Line {
         world.end_entity_gets(number, &message, good, decision, coverage);
     }
 
-    /// A message that was sent: one of the next that wait, or any old one.
-    fn sent(&mut self, world: &World, random: &mut Random) -> Parts {
+    /// A message that was sent, by its parts and as the library writes it: one of
+    /// the next that wait, or any old one.
+    fn sent(&mut self, world: &World, random: &mut Random) -> (Parts, Option<Vec<u8>>) {
         let sent = &world.history.sent;
         self.waiting.extend(self.seen..sent.len());
         self.seen = sent.len();
@@ -132,9 +135,13 @@ impl Line {
             let next = random.below(self.waiting.len().min(4));
             self.waiting.remove(next)
         };
-        let mut parts = Parts::of(&sent[number].outgoing);
-        parts.version = 2 + random.below(2) as i64;
-        parts
+        let outgoing = &sent[number].outgoing;
+        let version = 2 + random.below(2) as i32;
+        let parts = Parts {
+            version: version.into(),
+            ..Parts::of(outgoing)
+        };
+        (parts, Some(written_in(version, outgoing)))
     }
 
     /// The enrolment with the message's id.

@@ -1,12 +1,11 @@
 //! Our end entity enrols at OpenSSL's mock server, by HTTP.
 
 use super::draw::draw;
-use super::encode::encode;
 use super::http::post;
 use super::openssl::OpenSsl;
 use super::protection::is_good;
 use super::request::request;
-use duskstall_host::testing::der::Node;
+use super::sending;
 use duskstall_host::testing::received::Received;
 use duskstall_host::testing::sha256::sha256;
 use duskstall_host::{CertHash, Decision, EndEntity, FreshNonce, Outgoing, TransactionId};
@@ -34,7 +33,8 @@ pub fn run(openssl: &OpenSsl, kind: u8, accept: bool, change: fn(Outgoing) -> Ou
         sent: Vec::new(),
         came: Vec::new(),
     };
-    let cert_conf = host.exchange(first, Some(request(openssl, kind)));
+    let request = request(openssl, kind).encode();
+    let cert_conf = host.exchange(first, Some(&request));
     let cert_conf = cert_conf.expect("the board tells what was decided");
     let last = host.exchange(change(cert_conf), None);
     assert_eq!(last, None);
@@ -44,8 +44,8 @@ pub fn run(openssl: &OpenSsl, kind: u8, accept: bool, change: fn(Outgoing) -> Ou
 impl Host {
     /// Sends a message, and hands the answer to the board, which takes it and may
     /// have something to send then.
-    fn exchange(&mut self, outgoing: Outgoing, enclosed: Option<Node>) -> Option<Outgoing> {
-        let message = encode(&outgoing, enclosed);
+    fn exchange(&mut self, outgoing: Outgoing, enclosed: Option<&[u8]>) -> Option<Outgoing> {
+        let message = sending::message(&outgoing, enclosed);
         let answer = post(self.port, &message).expect("the server answers");
         let answer = Received::read(answer);
         let decision = Decision {

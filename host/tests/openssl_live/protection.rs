@@ -75,13 +75,18 @@ impl PasswordBased {
         Node::sequence(vec![Node::oid(&PASSWORD_BASED_MAC), parameter])
     }
 
-    /// The protection, `[0]`, of a header and a body, which are the content of a
-    /// ProtectedPart.
-    pub fn protection(&self, protected: &[u8]) -> Node {
+    /// The MAC of a ProtectedPart in DER.
+    pub fn mac(&self, part: &[u8]) -> Vec<u8> {
         let first = sha256(&[SECRET.as_bytes(), &self.salt].concat());
         let key = (1..self.iterations).fold(first, |key, _| sha256(&key));
+        (self.mac.1)(&key, part)
+    }
+
+    /// The protection, `[0]`, of a header and a body, which are the content of a
+    /// ProtectedPart.
+    fn protection(&self, protected: &[u8]) -> Node {
         let part = Node::primitive(0x30, protected).encode();
-        Node::explicit(0, Node::bits(0, &(self.mac.1)(&key, &part)))
+        Node::explicit(0, Node::bits(0, &self.mac(&part)))
     }
 }
 

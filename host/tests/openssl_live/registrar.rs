@@ -1,11 +1,10 @@
 //! OpenSSL's client enrols at our registrar, whose host is an HTTP server.
 
 use super::draw::draw;
-use super::encode::encode;
 use super::http::{loopback, serve};
 use super::openssl::{until, OpenSsl};
 use super::protection::is_good;
-use super::request::element;
+use super::sending;
 use duskstall_host::testing::exchange::P10CR;
 use duskstall_host::testing::received::Received;
 use duskstall_host::testing::sha256::sha256;
@@ -86,11 +85,11 @@ impl Host<'_> {
         self.said.push(refusal.map_or(0, |refusal| refusal.number));
         let (outgoing, certificate) = match answer.outgoing {
             Some(outgoing) => (outgoing, None),
-            None => (self.issue(&message), Some(element(&self.certificate))),
+            None => (self.issue(&message), Some(&self.certificate[..])),
         };
         self.came.push(message);
         self.sent.push(outgoing);
-        encode(&outgoing, certificate)
+        sending::message(&outgoing, certificate)
     }
 
     /// The response to a request that the registrar has taken.

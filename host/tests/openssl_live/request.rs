@@ -1,5 +1,5 @@
-//! The contents of requests, for the board's new key: a PKCS #10, or a CertReqMsg
-//! (RFC 4211) with the same name and key and a proof of possession.
+//! Requests for the board's new key: a PKCS #10, or a CertReqMsg (RFC 4211) with
+//! the same name and key and a proof of possession.
 
 use super::openssl::OpenSsl;
 use duskstall_host::testing::der::{parse, Node};
@@ -11,13 +11,13 @@ const ECDSA_WITH_SHA256: [u8; 8] = [0x2A, 0x86, 0x48, 0xCE, 0x3D, 0x04, 0x03, 0x
 const OLD_CERT_ID: [u8; 9] = [0x2B, 0x06, 0x01, 0x05, 0x05, 0x07, 0x05, 0x01, 0x05];
 
 /// The one element of sound DER.
-pub fn element(der: &[u8]) -> Node {
+fn element(der: &[u8]) -> Node {
     let nodes = parse(der).expect("it is DER");
     let [node] = <[Node; 1]>::try_from(nodes).expect("it is one element");
     node
 }
 
-/// The content of a request of this kind.
+/// The request that a message of this kind is written around.
 pub fn request(openssl: &OpenSsl, kind: u8) -> Node {
     let pkcs10 = element(&openssl.read("new.csr"));
     if kind == P10CR {
@@ -41,8 +41,7 @@ pub fn request(openssl: &OpenSsl, kind: u8) -> Node {
         Node::sequence(vec![Node::oid(&ECDSA_WITH_SHA256)]),
         Node::bits(0, &signature),
     ];
-    let message = vec![cert_request, Node::constructed(0xA1, possession)];
-    Node::sequence(vec![Node::sequence(message)])
+    Node::sequence(vec![cert_request, Node::constructed(0xA1, possession)])
 }
 
 /// The control of a kur that names the certificate to be replaced.

@@ -1,11 +1,12 @@
-//! OpenSSL as a reader of what the library writes: every kind, with as little and
-//! with as much in it as there is room for. `openssl_live.rs` sends them to its
+//! OpenSSL as a reader of what the library writes: every kind, accepted and
+//! rejected, with as little and with as much in it as there is room for. `openssl_live.rs` sends them to its
 //! CMP client and server.
 
 use super::tally::Tally;
 use duskstall_host::testing::der::parse;
 use duskstall_host::testing::openssl::Folder;
 use duskstall_host::testing::writing::{order, Call, Elements, KINDS};
+use duskstall_host::Outgoing;
 
 /// What `openssl asn1parse` finds: each element's offset, depth, and the lengths
 /// of its head and of its content.
@@ -50,11 +51,15 @@ fn openssl_parses_every_kind() {
     };
     let elements = Elements::new();
     let mut tally = Tally::default();
-    for kind in KINDS {
-        let outgoing = order(kind);
+    let rejected = KINDS.map(order).map(|outgoing| Outgoing {
+        status: outgoing.status.map(|_| 2),
+        failure: None,
+        ..outgoing
+    });
+    for outgoing in KINDS.map(order).into_iter().chain(rejected) {
         for given in [elements.least(&outgoing), elements.all(&outgoing)] {
             let message = tally.written(&Call::new(&outgoing, &given));
-            assert_eq!(found(&folder, &message), expected(&message), "{kind}");
+            assert_eq!(found(&folder, &message), expected(&message), "{outgoing:?}");
         }
     }
     println!("openssl asn1parse: {:?}", tally.written);

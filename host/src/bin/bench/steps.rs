@@ -6,7 +6,7 @@ use crate::measure::medians;
 use crate::reading::proved_reading;
 use duskstall_host::library;
 use duskstall_host::testing::chains::chain_message;
-use duskstall_host::testing::exchange::Parts;
+use duskstall_host::testing::writing::written;
 use duskstall_host::{Board, CertHash, Decision, EndEntity, FreshNonce, Outgoing, Registrar};
 use duskstall_host::{TransactionId, Verdict, END_ENTITY_ANSWER_BYTES};
 use duskstall_host::{MESSAGE_LIMIT, REGISTRAR_ANSWER_BYTES, SLOTS};
@@ -39,14 +39,14 @@ struct Messages {
 }
 
 fn enrol() -> Messages {
-    let encode = |sent: Option<Outgoing>| Parts::of(&sent.expect("it is sent")).encode();
+    let write = |sent: Option<Outgoing>| written(&sent.expect("it is sent"));
     let (mut end_entity, request) = started(ID);
     let mut registrar = Registrar::new();
-    let request = encode(Some(request));
+    let request = write(Some(request));
     registrar.message(&request, GOOD, NONCE);
-    let response = encode(registrar.issue(ID, NONCE, HASH).outgoing);
-    let cert_conf = encode(end_entity.message(&response, true, ACCEPT, NONCE).outgoing);
-    let pkiconf = encode(registrar.message(&cert_conf, GOOD, NONCE).outgoing);
+    let response = write(registrar.issue(ID, NONCE, HASH).outgoing);
+    let cert_conf = write(end_entity.message(&response, true, ACCEPT, NONCE).outgoing);
+    let pkiconf = write(registrar.message(&cert_conf, GOOD, NONCE).outgoing);
     Messages {
         request,
         response,
@@ -64,7 +64,7 @@ fn with_others(count: usize) -> Registrar {
     let mut registrar = Registrar::new();
     for number in 0..count as u8 {
         let (_, request) = started(TransactionId([number; 16]));
-        registrar.message(&Parts::of(&request).encode(), GOOD, NONCE);
+        registrar.message(&written(&request), GOOD, NONCE);
     }
     assert_eq!(registrar.transactions().count(), count);
     registrar

@@ -4,8 +4,8 @@
 use crate::claims::Claims;
 use crate::line::Line;
 use crate::show;
-use duskstall_host::testing::exchange::Parts;
 use duskstall_host::testing::random::Random;
+use duskstall_host::testing::writing::written;
 use duskstall_host::{
     Board, CertHash, Decision, EndEntity, EnrolmentState, FreshNonce, Outgoing, Registrar,
     TransactionId, TransactionState, Verdict,
@@ -108,9 +108,9 @@ impl World {
         std::array::from_fn(|_| self.random.byte())
     }
 
-    /// Encodes and protects what an end gave to be sent.
+    /// Has the library write what an end gave to be sent, and protects it.
     fn packet(&mut self, from: End, to: End, outgoing: Outgoing) -> Packet {
-        let bytes = Parts::of(&outgoing).encode();
+        let bytes = written(&outgoing);
         self.protected.push((from, bytes.clone()));
         Packet {
             from,
