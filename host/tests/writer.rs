@@ -6,6 +6,8 @@
 
 #[path = "writer/back.rs"]
 mod back;
+#[path = "writer/corpus.rs"]
+mod corpus;
 #[path = "writer/drawn.rs"]
 mod drawn;
 #[path = "writer/examples.rs"]

@@ -3,12 +3,22 @@
 
 use super::der::{parse, Node};
 use super::messages::{full_header, key_pair, message, protection, responses, status_info};
+use super::received::Received;
+use super::writing::Call;
+use crate::{Given, MESSAGE_LIMIT};
 
 const MESSAGES: [&[u8]; 4] = [
     include_bytes!("../../tests/corpus/sig-extra-rsp1.der"),
     include_bytes!("../../tests/corpus/sig-extra-req1.der"),
     include_bytes!("../../tests/corpus/mac-extra-rsp1.der"),
     include_bytes!("../../tests/corpus/sig-sans-rsp1.der"),
+];
+
+/// ir, certConf and ip of an enrolment with signatures.
+const SIGNED: [&[u8]; 3] = [
+    include_bytes!("../../tests/corpus/sig-ir-req1.der"),
+    include_bytes!("../../tests/corpus/sig-ir-req2.der"),
+    include_bytes!("../../tests/corpus/sig-ir-rsp1.der"),
 ];
 
 /// The different certificates in these messages.
@@ -94,6 +104,37 @@ fn ip_with(certificate: Option<Node>, extra: impl FnOnce(usize) -> Vec<Node>) ->
     // Without the chain, and with the longest length forms around it.
     let frame = build(Vec::new()).len() + 6;
     build(extra(frame))
+}
+
+/// A SEQUENCE of about `size` bytes: certificates, and zeros where no further one
+/// fits.
+fn long_certificate(size: usize) -> Vec<u8> {
+    let mut parts = chain(size.saturating_sub(8));
+    let used: usize = parts.iter().map(Node::encoded_len).sum();
+    parts.push(Node::octets(&vec![0; size.saturating_sub(used + 8)]));
+    Node::sequence(parts).encode()
+}
+
+/// The calls that write OpenSSL's certConf, its ir, and its ip with a certificate
+/// of about 1.4 KB in place of its own, and with one so long that the ip is about
+/// as long as a message may be.
+pub fn calls_to_write() -> [(&'static str, Call); 4] {
+    let [ir, cert_conf, ip] = SIGNED.map(|bytes| Received::read(bytes.to_vec()));
+    let with_certificate = |size: usize| {
+        let certificate = long_certificate(size);
+        let given = Given {
+            certificate: Some(&certificate),
+            ..ip.as_given()
+        };
+        Call::new(&ip.as_outgoing(), &given)
+    };
+    let as_it_is = |message: &Received| Call::new(&message.as_outgoing(), &message.as_given());
+    [
+        ("certConf", as_it_is(&cert_conf)),
+        ("ir", as_it_is(&ir)),
+        ("ip", with_certificate(1_434)),
+        ("ip 16K", with_certificate(MESSAGE_LIMIT - 256)),
+    ]
 }
 
 /// A run of at most `size` bytes of certificates.

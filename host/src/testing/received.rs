@@ -2,7 +2,16 @@
 
 use super::sha256::sha256;
 use crate::{compiled, independent};
-use crate::{CertHash, FreshNonce, Nonce, Outgoing, Reading, Span, TransactionId};
+use crate::{CertHash, FreshNonce, Given, Nonce, Outgoing, Reading, Span, TransactionId};
+
+/// The content of a sound element.
+fn inside(element: &[u8]) -> &[u8] {
+    match element {
+        [_, 0x81, _, content @ ..] | [_, 0x82, _, _, content @ ..] => content,
+        [_, _, content @ ..] => content,
+        _ => &[],
+    }
+}
 
 /// A message and its reading by the library.
 pub struct Received {
@@ -63,6 +72,30 @@ impl Received {
             hash: hash.try_into().ok().map(CertHash),
             failure: None,
             number: has_number.then_some(reading.number as i32),
+        }
+    }
+
+    /// What a host of ours has to give where the other implementation sent this
+    /// message. The protection, `[0]` around a BIT STRING, is its last part or
+    /// stands before extraCerts.
+    pub fn as_given(&self) -> Given<'_> {
+        let reading = &self.reading;
+        let given = |span: Span| (span.start > 0).then(|| self.part(span));
+        Given {
+            message_time: given(reading.message_time),
+            protection_alg: given(reading.protection_alg),
+            sender_kid: given(reading.sender_kid),
+            recip_kid: given(reading.recip_kid),
+            free_text: given(reading.free_text),
+            general_info: given(reading.general_info),
+            protection: given(reading.protection).map(|whole| inside(inside(whole))),
+            request: given(reading.request),
+            certificate: given(reading.certificate),
+            ..Given::new(
+                reading.version as i32,
+                self.part(reading.sender),
+                self.part(reading.recipient),
+            )
         }
     }
 

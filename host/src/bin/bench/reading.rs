@@ -125,7 +125,8 @@ fn rust_check(run: &[u8]) -> Option<(usize, u8)> {
     independent::check_elements(run)
 }
 
-fn print_both(name: &str, bytes: usize, [proved, rust]: [f64; 2]) {
+/// Both times, and their ratio.
+pub fn print_both(name: &str, bytes: usize, [proved, rust]: [f64; 2]) {
     println!(
         "{name:7} {bytes:6} bytes: proved {proved:9.1} ns ({:.3}/byte), \
          Rust {rust:9.1} ns ({:.3}/byte), ratio {:.2}",
