@@ -23,7 +23,7 @@ example: $(BUILT)/enrol ## one board enrols, from C; held to its stored transcri
 test: ## the gate: all proofs, must-fail edits, tests and examples
 	.ci/run
 
-bench: $(LIBRARY) ## the proved reader's speed beside a Rust reader's, and that of the calls
+bench: $(LIBRARY) ## the speed of the proved reader and writer beside those in Rust, and that of the calls
 	@cd host && cargo run --release --offline --quiet --bin bench
 
 clean: ## removes all that was built, the proofs too
