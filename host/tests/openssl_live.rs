@@ -30,7 +30,7 @@ use duskstall_host::testing::sha256::sha256;
 use duskstall_host::{CertHash, EnrolmentState, Outgoing, TransactionState};
 use openssl::OpenSsl;
 use protection::SECRET;
-use registrar::BOARD;
+use registrar::{Policy, BOARD};
 
 /// An enrolment by one kind of request.
 struct Kind {
@@ -103,6 +103,8 @@ fn as_given(outgoing: Outgoing) -> Outgoing {
     outgoing
 }
 
+const ISSUES: Policy = Policy::Issues(as_given);
+
 /// -1 for 0, and 0 for -1.
 fn wrong_number(outgoing: Outgoing) -> Outgoing {
     Outgoing {
@@ -126,7 +128,7 @@ fn fails(openssl: &OpenSsl, host: &registrar::Host) {
 #[test]
 fn openssl_enrols_at_our_registrar() {
     with_openssl(|openssl, kind| {
-        let host = registrar::run(openssl, kind.command, SECRET, as_given);
+        let host = registrar::run(openssl, kind.command, SECRET, ISSUES);
         let number = Some(kind.number);
         assert_eq!(sent(&host.sent), [(kind.response, number), (19, None)]);
         assert_eq!(came(&host.came)[1..], [(24, number)]);
@@ -144,7 +146,7 @@ fn openssl_enrols_at_our_registrar() {
 fn openssl_declines_at_our_registrar() {
     with_openssl(|openssl, kind| {
         let command = format!("{} -out_trusted new.crt", kind.command);
-        let host = registrar::run(openssl, &command, SECRET, as_given);
+        let host = registrar::run(openssl, &command, SECRET, ISSUES);
         assert_eq!(came(&host.came)[1..], [(24, Some(kind.number))]);
         assert_eq!(host.said, [0, 0]);
         fails(openssl, &host);
@@ -154,12 +156,29 @@ fn openssl_declines_at_our_registrar() {
     });
 }
 
+/// A response with status 2 and no certificate.
+#[test]
+fn openssl_is_refused_at_our_registrar() {
+    with_openssl(|openssl, kind| {
+        let host = registrar::run(openssl, kind.command, SECRET, Policy::Refuses);
+        assert_eq!(sent(&host.sent), [(kind.response, Some(kind.number))]);
+        assert_eq!((host.said.as_slice(), host.came.len()), (&[0][..], 1));
+        fails(openssl, &host);
+        let none = CertHash::default();
+        let refused = (BOARD, kind.request, TransactionState::Refused, none);
+        assert_eq!(host.table(), [refused]);
+        let (name, words) = (kind.name, openssl.complaint());
+        assert!(words.contains("request rejected by server"), "{words}");
+        println!("openssl's {name}, refused at our registrar: there {words}");
+    });
+}
+
 /// Whatever certReqId the cp to a p10cr has, OpenSSL's client confirms with it,
 /// and our registrar refuses that; in another response it wants 0 itself.
 #[test]
 fn response_with_wrong_number_enrols_nobody() {
     with_openssl(|openssl, kind| {
-        let host = registrar::run(openssl, kind.command, SECRET, wrong_number);
+        let host = registrar::run(openssl, kind.command, SECRET, Policy::Issues(wrong_number));
         assert_eq!(sent(&host.sent)[0], (kind.response, Some(!kind.number)));
         let (confirmed, said): (&[_], &[_]) = match kind.request {
             P10CR => (&[(24, Some(0))], &[0, 16]),
@@ -178,7 +197,7 @@ fn response_with_wrong_number_enrols_nobody() {
 #[test]
 fn openssl_with_another_password_is_refused_by_7() {
     with_openssl(|openssl, kind| {
-        let host = registrar::run(openssl, kind.command, "another-secret", as_given);
+        let host = registrar::run(openssl, kind.command, "another-secret", ISSUES);
         assert_eq!(host.said, [7]);
         assert_eq!(sent(&host.sent), [(23, None)]);
         fails(openssl, &host);

@@ -15,11 +15,18 @@ use std::net::TcpListener;
 /// The only board that has the password.
 pub const BOARD: Board = Board(7);
 
+/// What the host does with a request that the registrar has taken: it issues a
+/// certificate and makes this of the response before it sends it, or refuses.
+#[derive(Clone, Copy)]
+pub enum Policy {
+    Issues(fn(Outgoing) -> Outgoing),
+    Refuses,
+}
+
 /// A registrar's host, and what went through it.
 pub struct Host<'a> {
     openssl: &'a OpenSsl,
-    /// What it makes of a response before it sends it.
-    change: fn(Outgoing) -> Outgoing,
+    policy: Policy,
     registrar: Registrar,
     pub came: Vec<Received>,
     /// What the registrar said of each message: 0 for done, else the refusal.
@@ -32,15 +39,10 @@ pub struct Host<'a> {
 }
 
 /// Runs the client with this command and this password until it ends.
-pub fn run<'a>(
-    openssl: &'a OpenSsl,
-    command: &str,
-    secret: &str,
-    change: fn(Outgoing) -> Outgoing,
-) -> Host<'a> {
+pub fn run<'a>(openssl: &'a OpenSsl, command: &str, secret: &str, policy: Policy) -> Host<'a> {
     let mut host = Host {
         openssl,
-        change,
+        policy,
         registrar: Registrar::new(),
         came: Vec::new(),
         said: Vec::new(),
@@ -83,9 +85,13 @@ impl Host<'_> {
         let answer = self.registrar.message(&message.bytes, verdict, nonce);
         let refusal = answer.outcome.refusal();
         self.said.push(refusal.map_or(0, |refusal| refusal.number));
-        let (outgoing, certificate) = match answer.outgoing {
-            Some(outgoing) => (outgoing, None),
-            None => (self.issue(&message), Some(&self.certificate[..])),
+        let (outgoing, certificate) = match (answer.outgoing, self.policy) {
+            (Some(outgoing), _) => (outgoing, None),
+            (None, Policy::Refuses) => (self.refuse(&message), None),
+            (None, Policy::Issues(change)) => {
+                let response = change(self.issue(&message));
+                (response, Some(&self.certificate[..]))
+            }
         };
         self.came.push(message);
         self.sent.push(outgoing);
@@ -102,6 +108,11 @@ impl Host<'_> {
         self.certificate = self.openssl.issue(&asked);
         let hash = CertHash(sha256(&self.certificate));
         let answer = (self.registrar).issue(request.id(), FreshNonce(draw()), hash);
-        (self.change)(answer.outgoing.expect("the request is granted"))
+        answer.outgoing.expect("the request is granted")
+    }
+
+    fn refuse(&mut self, request: &Received) -> Outgoing {
+        let answer = self.registrar.refuse(request.id(), FreshNonce(draw()));
+        answer.outgoing.expect("the request is refused")
     }
 }

@@ -316,10 +316,7 @@ fn parts_at_the_ends_of_the_source() {
 fn kinds() {
     let elements = Elements::new();
     for kind in 0..=u8::MAX {
-        let outgoing = Outgoing {
-            kind,
-            ..order(kind)
-        };
+        let outgoing = order(kind);
         let call = Call::new(&outgoing, &elements.least(&outgoing));
         match KINDS.contains(&kind) {
             true => drop(Tally::default().written(&call)),
@@ -329,25 +326,26 @@ fn kinds() {
 }
 
 /// Another length of the order or of the list of parts comes before all else, and
-/// changes nothing.
+/// changes nothing: with a call that is written, and with one that is over the
+/// limit.
 #[test]
 fn lengths_of_order_and_list() {
-    let call = sample();
-    let long = [vec![0; MESSAGE_LIMIT], call.source.clone()].concat();
-    for (outgoing_len, given_len) in (0..=200)
-        .map(|len| (len, GIVEN))
-        .chain((0..=64).map(|len| (OUTGOING_BYTES, len)))
-    {
+    let sound = sample();
+    let mut over = sound.clone();
+    put(&mut over, Part::SenderKid, &[0; MESSAGE_LIMIT]);
+    let orders = (0..=200).map(|len| (len, GIVEN));
+    let lists = (0..=64).map(|len| (OUTGOING_BYTES, len));
+    for (outgoing_len, given_len) in orders.chain(lists) {
         if (outgoing_len, given_len) == (OUTGOING_BYTES, GIVEN) {
             continue;
         }
-        let mut outgoing = call.outgoing.to_vec();
-        outgoing.resize(outgoing_len, 0);
-        let mut given = call.given.to_vec();
-        given.resize(given_len, u64::MAX);
-        for room in [0, 139, 140, 200] {
+        for (call, room) in [(&sound, 140), (&sound, 139), (&over, 140), (&over, 0)] {
+            let mut outgoing = call.outgoing.to_vec();
+            outgoing.resize(outgoing_len, 0);
+            let mut given = call.given.to_vec();
+            given.resize(given_len, 0);
             let mut buffer = vec![0xA5; room];
-            let answer = library::write(&outgoing, 2, &given, &long, &mut buffer);
+            let answer = library::write(&outgoing, 2, &given, &call.source, &mut buffer);
             assert_eq!(answer, BAD_LENGTH << 32);
             assert!(buffer.iter().all(|byte| *byte == 0xA5));
         }
