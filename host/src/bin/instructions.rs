@@ -14,7 +14,7 @@ const CERT_CONF: &[u8] = include_bytes!("../../tests/corpus/sig-ir-req2.der");
 enum Input {
     Read(Vec<u8>),
     Check(Vec<u8>),
-    Write(Call),
+    Write(Box<Call>),
 }
 
 /// All of them by name.
@@ -26,7 +26,7 @@ fn inputs() -> Vec<(&'static str, Input)> {
         ("run", Input::Check(chain_run(40 * 1_024))),
     ];
     let names = ["write certConf", "write ir", "write ip", "write ip 16K"];
-    let calls = calls_to_write().map(|(_, call)| Input::Write(call));
+    let calls = calls_to_write().map(|(_, call)| Input::Write(Box::new(call)));
     inputs.extend(names.into_iter().zip(calls));
     inputs
 }

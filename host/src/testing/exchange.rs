@@ -1,5 +1,5 @@
-//! Messages of an exchange between a board and the registrar, as the host would
-//! encode them, and with any part changed.
+//! Messages of an exchange between a board and the registrar, encoded without the
+//! library and with any part changed.
 
 use super::der::Node;
 use super::messages::{self, algorithm, name};
