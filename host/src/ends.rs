@@ -75,7 +75,7 @@ impl Outcome {
     }
 }
 
-/// A message that the host is to protect and send; [`write`](crate::write)
+/// A message that the host is to protect and send; [`write()`](crate::write())
 /// writes it.
 #[derive(Clone, Copy, Debug, PartialEq, Eq)]
 pub struct Outgoing {

@@ -2,7 +2,7 @@
 //! and what it is held to, an independent reader and writer of CMP messages and a
 //! model of both ends in ordinary Rust.
 //!
-//! [`Registrar`] and [`EndEntity`] run the two ends of an enrolment; [`write`] and
+//! [`Registrar`] and [`EndEntity`] run the two ends of an enrolment; [`write()`] and
 //! [`write_protected`] write the messages that they give to be sent, and `compiled`
 //! reads a message. `independent` and `model` are written from the papers alone;
 //! `testing` makes messages for the tests.

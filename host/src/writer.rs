@@ -133,7 +133,7 @@ fn written(answer: u64) -> Result<usize, Refusal> {
 /// Writes a message and protects it: `protect` is handed the ProtectedPart in DER
 /// (RFC 9810 5.1.3) and gives the protection in whole bytes. The algorithm's name
 /// is in what is given; a protection there is replaced. Gives the size, or a
-/// refusal as [`write`] does, after which the buffer may hold the message without
+/// refusal as [`write()`] does, after which the buffer may hold the message without
 /// protection.
 ///
 /// ```
