@@ -64,17 +64,14 @@ fn sizes_and_codes() {
         ("TRANSACTION_STATE", TRANSACTION_BYTES - 1),
         ("ENROLMENT_STATE", ENROLMENT_BYTES - 1),
         ("CERT_REQ_ID_BYTES", size_of::<i32>()),
-        (
-            "OUTGOING_CERT_REQ_ID",
-            value("OUTGOING_BYTES") - size_of::<i32>(),
-        ),
+        ("OUTGOING_CERT_REQ_ID", OUTGOING_BYTES - size_of::<i32>()),
         (
             "REGISTRAR_OUTGOING",
-            REGISTRAR_ANSWER_BYTES - value("OUTGOING_BYTES"),
+            REGISTRAR_ANSWER_BYTES - OUTGOING_BYTES,
         ),
         (
             "END_ENTITY_OUTGOING",
-            END_ENTITY_ANSWER_BYTES - value("OUTGOING_BYTES"),
+            END_ENTITY_ANSWER_BYTES - OUTGOING_BYTES,
         ),
         ("REGISTRAR_ANSWER_BYTES", REGISTRAR_ANSWER_BYTES),
         ("END_ENTITY_ANSWER_BYTES", END_ENTITY_ANSWER_BYTES),
