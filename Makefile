@@ -7,7 +7,7 @@ CFLAGS := -Wall -Wextra -Wpedantic -Werror -I include
 ENROL := examples/enrol.c examples/host.c examples/show.c
 BUILT := target/examples
 
-.PHONY: help demo example test bench clean
+.PHONY: help demo example test bench stack clean
 
 help: ## this list
 	@sed -n 's/^\([a-z]*\):[^#]*## /  make \1\t/p' Makefile | expand -t 18
@@ -25,6 +25,9 @@ test: ## the gate: all proofs, must-fail edits, tests and examples
 
 bench: $(LIBRARY) ## the speed of the proved reader and writer beside those in Rust, and that of the calls
 	@cd host && cargo run --release --offline --quiet --bin bench
+
+stack: $(BUILT)/stack ## the stack that each function of the library uses
+	@$<
 
 clean: ## removes all that was built, the proofs too
 	rm -rf target host/target
@@ -45,6 +48,10 @@ $(BUILT)/header_check: examples/header_check.c include/duskstall.h $(LIBRARY) | 
 
 $(BUILT)/header_check_cpp: examples/header_check.c include/duskstall.h $(LIBRARY) | $(BUILT)
 	$(CXX) -std=c++11 $(CFLAGS) -x c++ examples/header_check.c -x none $(LIBRARY) -o $@
+
+# The stack that each function uses.
+$(BUILT)/stack: examples/stack.c include/duskstall.h $(LIBRARY) | $(BUILT)
+	$(CC) -std=c11 -O2 $(CFLAGS) examples/stack.c $(LIBRARY) -pthread -o $@
 
 # The example in the header's comment, with a main around it.
 $(BUILT)/comment.c: include/duskstall.h Makefile | $(BUILT)
