@@ -4,8 +4,9 @@ use mathlib.Core.List.{List, [], _∷_, _++_}
 use mathlib.Core.Bool.{Bool, true, false, cond, _&&_, true≢false}
 use mathlib.Core.Option.{Option, none, some}
 use mathlib.Core.Path.{_≡_, refl, sym, _∙_, ap, subst}
+use mathlib.Core.Logic.{_≢_}
 use native.Mathlib.Omega.{arith}
-use borrow.Author.Tests.{eqb-true, eqb-false}
+use borrow.Author.Tests.{eq-eqb, eqb-true, eqb-false}
 use lib.ListN.{length, take, drop, getD, length-append, length-drop, take-append-drop, List·getD-append}
 use lib.Seq.{take-append-seam, drop-append-seam, take-append-le, drop-append-le}
 use lib.Dec.{eqb, lit<, lit≤}
@@ -27,6 +28,7 @@ use Rattle.encoding.specs.Given.{Given}
 use Rattle.encoding.specs.Message.{encode}
 use Rattle.encoding.specs.ReadBack.{Bytes, BytesIf, GivenTyped, OrderTyped, ReadsBack}
 use Rattle.encoding.specs.Write.{refusalOf}
+use Rattle.encoding.specs.WriteRules.{RefusalRules}
 use Rattle.encoding.proofs.Inverse.{bytes-part}
 use Rattle.encoding.proofs.Refusals.{refusals}
 use Rattle.encoding.proofs.Written as encoded
@@ -41,7 +43,7 @@ use Rattle.writer.proofs.WriteRules.{writes}
 use Rattle.duskstall.specs.Write.{notWritten, writtenNumber, writeArgs, writeNumber, writeBuffer}
 use Rattle.lent.specs.Lent.{LentEvent, eventsOf}
 use Rattle.lent.specs.Header.{Sent, IssuedBytes}
-use Rattle.lent.specs.Written.{givenIn, WroteBytes, BytesWritten}
+use Rattle.lent.specs.Written.{AllGivenInPlace, RightLengths, inHighBits, givenIn, WriteAnswers, AllWriteAnswers, WroteBytes, BytesWritten}
 use Rattle.lent.proofs.Sent.{sent-issued, issued-back}
 
 -- ## What the types say
@@ -125,6 +127,23 @@ first-bytes u out size e =
 abbrev held : List ℕ → Bool → UnpackedOutgoing
 held out b = cond b (record { ok = true; outgoing = outgoingOf out }) (record { ok = false; outgoing = outgoingOf (zeros outgoingBytes) })
 
+module _ (out given : List ℕ) where
+  order-is : writeArgs out given ≡ true → (unpackOutgoing out .outgoing ≡ outgoingOf out) × (length out ≡ outgoingBytes)
+  unfolding unpackOutgoing
+  order-is = by (eqb (length out) outgoingBytes) refl
+    where
+      by : (b : Bool) → eqb (length out) outgoingBytes ≡ b → (held out b .ok && eqb (length given) givenCount) ≡ true
+          → (held out b .outgoing ≡ outgoingOf out) × (length out ≡ outgoingBytes)
+      by true e q = (refl, eqb-true (length out) outgoingBytes e)
+      by false e q = absurd (true≢false (sym q))
+
+  right-args : RightLengths out given → writeArgs out given ≡ true
+  unfolding unpackOutgoing
+  right-args h = rw (eq-eqb (length out) outgoingBytes (h .0)) (eq-eqb (length given) givenCount (h .1))
+
+  args-right-lengths : writeArgs out given ≡ true → RightLengths out given
+  args-right-lengths e = (order-is e .1, eqb-true (length given) givenCount (and-right (unpackOutgoing out .ok) _ e))
+
 module _ (out given src buf : List ℕ) (v n : ℕ) (low : n < 2 ^ 32) where
   -- the lengths were right
   args-right : writeNumber out v given src buf ≡ n → writeArgs out given ≡ true
@@ -135,15 +154,6 @@ module _ (out given src buf : List ℕ) (v n : ℕ) (low : n < 2 ^ 32) where
           → cond b (writtenNumber (writeAnswer src (spansOf v given) (unpackOutgoing out .outgoing) buf)) (notWritten 252) ≡ n → b ≡ true
       by true e q = refl
       by false e q = absurd (omega (arith, q, low))
-
-  order-is : writeArgs out given ≡ true → (unpackOutgoing out .outgoing ≡ outgoingOf out) × (length out ≡ outgoingBytes)
-  unfolding unpackOutgoing
-  order-is = by (eqb (length out) outgoingBytes) refl
-    where
-      by : (b : Bool) → eqb (length out) outgoingBytes ≡ b → (held out b .ok && eqb (length given) givenCount) ≡ true
-          → (held out b .outgoing ≡ outgoingOf out) × (length out ≡ outgoingBytes)
-      by true e q = (refl, eqb-true (length out) outgoingBytes e)
-      by false e q = absurd (true≢false (sym q))
 
   -- the answer has a size, and no refusal
   unrefused : (g : GivenSpans) (o : Outgoing) → writtenNumber (writeAnswer src g o buf) ≡ n → (writeRefusal src g o buf ≡ 0) × (writeAnswer src g o buf ≡ Size n)
@@ -164,7 +174,7 @@ bytes-written out given src buf v n out-bytes src-bytes v-low is low =
     let o : Outgoing = outgoingOf out in
     let x : List ℕ = encode (givenOf src g) o in
     let args : writeArgs out given ≡ true = args-right out given src buf v n low is in
-    let order = order-is out given src buf v n low args in
+    let order = order-is out given args in
     let number : writtenNumber (writeAnswer src g o buf) ≡ n =
     ap (λ (y : Outgoing). writtenNumber (writeAnswer src g y buf)) (sym (order .0)) ∙ (simp args at is) in
     let u = unrefused out given src buf v n low g o number in
@@ -172,10 +182,13 @@ bytes-written out given src buf v n out-bytes src-bytes v-low is low =
     let w = rules .written n (u .1) in
     let after : writeBuffer out v given src buf ≡ x ++ drop n buf = rw args (ap (λ (y : Outgoing). bufferAfter src g y buf) (order .0) ∙ w .1) in
     let result : take n (writeBuffer out v given src buf) ≡ x = ap (take n) after ∙ rw (w .0) (take-append-seam x (drop (length x) buf)) in
+    let unhindered = refusals (spansInside src g) (givenOf src g) o (length buf) .written .0 (u .0) in
     let typed = given-typed src g src-bytes v-low in
     let types = order-typed out out-bytes (order .1) in
     record {
-      limit = omega (arith, w .0, refusals (spansInside src g) (givenOf src g) o (length buf) .written .0 (u .0) .0);
+      size = w .0;
+      limit = omega (arith, w .0, unhindered .0);
+      room = omega (arith, w .0, unhindered .1);
       result = result;
       others = ap (drop n) after ∙ rw (w .0) (drop-append-seam x (drop (length x) buf));
       back = encoded.written (spansInside src g) (givenOf src g) o (length buf) typed types (u .0);
@@ -184,4 +197,55 @@ bytes-written out given src buf v n out-bytes src-bytes v-low is low =
           let gave : Issued p o (eventsOf past) = subst (λ (y : Outgoing). Issued p y (eventsOf past)) (first-bytes (sent .0) out (order .1) (sent .1)) (sent .2) in
           let there = encoded.issued (spansInside src g) (givenOf src g) o (length buf) typed types (u .0) p (eventsOf past) gave in
           subst (λ (y : List ℕ). IssuedBytes p y (readingOf y) past) (sym result) (issued-back p x (readingOf x) past there);
+    }
+
+-- ## What the call does, whatever it is handed
+
+-- GIVEN IN PLACE
+pub given-in-place : AllGivenInPlace
+given-in-place v s = record {
+  version = refl;
+  sender = refl;
+  recipient = refl;
+  messageTime = refl;
+  protectionAlg = refl;
+  senderKid = refl;
+  recipKid = refl;
+  freeText = refl;
+  generalInfo = refl;
+  protection = refl;
+  request = refl;
+  certificate = refl;
+}
+
+module _ (src : List ℕ) (g : GivenSpans) (o : Outgoing) (buf : List ℕ) where
+  -- what a call on values says, in the number that is returned
+  answered : (a : Written) (after : List ℕ) → WriteRules src g o buf a after
+      → (k : ℕ)
+      × RefusalRules (spansInside src g) (givenOf src g) o (length buf) k
+      × (k ≢ 0 → (writtenNumber a ≡ inHighBits k) × (after ≡ buf))
+      × (k ≡ 0 → (writtenNumber a ≡ length (encode (givenOf src g) o)) × (after ≡ encode (givenOf src g) o ++ drop (writtenNumber a) buf))
+  answered (Size n) after r = (0, r .refusal, (λ z. absurd (z refl)), λ z. r .written n refl)
+  answered (Refused k) after r = (k, r .refusal, (λ z. (refl, r .refused k refl .0)), λ z. absurd (r .refused k refl .1 z))
+
+-- WRITE ANSWERS
+pub write-answers : AllWriteAnswers
+unfolding writeNumber writeBuffer
+write-answers out given src buf v = by (writeArgs out given) refl
+  where
+    by : (b : Bool) → writeArgs out given ≡ b
+        → WriteAnswers out given src buf
+        (cond b (bufferAfter src (spansOf v given) (unpackOutgoing out .outgoing) buf) buf) v
+        (cond b (writtenNumber (writeAnswer src (spansOf v given) (unpackOutgoing out .outgoing) buf)) (notWritten 252))
+    by true e =
+        let g : GivenSpans = spansOf v given in
+        subst (λ (y : Outgoing). WriteAnswers out given src buf (bufferAfter src g y buf) v (writtenNumber (writeAnswer src g y buf)))
+        (sym (order-is out given e .0))
+        (record {
+          lengths = λ wrong. absurd (wrong (args-right-lengths out given e));
+          answer = λ right. answered src g (outgoingOf out) buf (writeAnswer src g (outgoingOf out) buf) (bufferAfter src g (outgoingOf out) buf) (writes src g (outgoingOf out) buf);
+        })
+    by false e = record {
+      lengths = λ wrong. (refl, refl);
+      answer = λ right. absurd (true≢false (sym (right-args out given right) ∙ e));
     }

@@ -165,3 +165,44 @@ endEntitySendsPlace = answerFaultRulePlace + ruleWidth
 
 abbrev pub endEntityOutgoingPlace : ℕ
 endEntityOutgoingPlace = endEntitySendsPlace + flagWidth
+
+-- ## DUSKSTALL_GIVEN_*, in the numbers that duskstall_write is handed: a start, and after it a length
+
+abbrev pub spanWidth : ℕ
+spanWidth = 2
+
+abbrev pub givenSenderPlace : ℕ
+givenSenderPlace = 0
+
+abbrev pub givenRecipientPlace : ℕ
+givenRecipientPlace = givenSenderPlace + spanWidth
+
+abbrev pub givenMessageTimePlace : ℕ
+givenMessageTimePlace = givenRecipientPlace + spanWidth
+
+abbrev pub givenProtectionAlgPlace : ℕ
+givenProtectionAlgPlace = givenMessageTimePlace + spanWidth
+
+abbrev pub givenSenderKidPlace : ℕ
+givenSenderKidPlace = givenProtectionAlgPlace + spanWidth
+
+abbrev pub givenRecipKidPlace : ℕ
+givenRecipKidPlace = givenSenderKidPlace + spanWidth
+
+abbrev pub givenFreeTextPlace : ℕ
+givenFreeTextPlace = givenRecipKidPlace + spanWidth
+
+abbrev pub givenGeneralInfoPlace : ℕ
+givenGeneralInfoPlace = givenFreeTextPlace + spanWidth
+
+abbrev pub givenProtectionPlace : ℕ
+givenProtectionPlace = givenGeneralInfoPlace + spanWidth
+
+abbrev pub givenRequestPlace : ℕ
+givenRequestPlace = givenProtectionPlace + spanWidth
+
+abbrev pub givenCertificatePlace : ℕ
+givenCertificatePlace = givenRequestPlace + spanWidth
+
+abbrev pub givenEnd : ℕ
+givenEnd = givenCertificatePlace + spanWidth

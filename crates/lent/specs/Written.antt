@@ -1,8 +1,10 @@
--- Writing at the exported call: the bytes that duskstall_write puts into the buffer, from the bytes of a message to be sent as an answer holds them.
-use Prim.Native.Nat.{ℕ, _<_, _≤_, _^_}
+-- Writing at the exported call: what duskstall_write returns and leaves in the buffer, from the bytes of a message to be sent as an answer holds them.
+use Prim.Native.Nat.{ℕ, _+_, _*_, _<_, _≤_, _^_}
 use mathlib.Core.List.{List, _++_}
 use mathlib.Core.Path.{_≡_}
+use mathlib.Core.Logic.{_≢_}
 use lib.ListN.{length, take, drop, getD}
+use Rattle.grammar.specs.declared.Span.{Span}
 use Rattle.message.specs.Read.{maxMessage, readingOf}
 use Rattle.protocol.specs.Run.{End}
 use Rattle.packed.specs.Bytes.{AllBytes}
@@ -10,19 +12,73 @@ use Rattle.packed.specs.Outgoing.{outgoingBytes, outgoingOf}
 use Rattle.encoding.specs.Given.{Given}
 use Rattle.encoding.specs.Message.{encode}
 use Rattle.encoding.specs.ReadBack.{ReadsBack}
+use Rattle.encoding.specs.WriteRules.{RefusalRules}
+use Rattle.given.specs.declared.GivenSpans.{GivenSpans}
 use Rattle.given.specs.Numbers.{spansOf}
-use Rattle.given.specs.Spans.{givenOf}
+use Rattle.given.specs.Spans.{givenOf, spansInside}
 use Rattle.duskstall.specs.Write.{writeNumber, writeBuffer}
+use Rattle.lent.specs.HeaderPlaces.{givenSenderPlace, givenRecipientPlace, givenMessageTimePlace, givenProtectionAlgPlace, givenSenderKidPlace, givenRecipKidPlace, givenFreeTextPlace, givenGeneralInfoPlace, givenProtectionPlace, givenRequestPlace, givenCertificatePlace, givenEnd}
 use Rattle.lent.specs.Lent.{LentEvent}
 use Rattle.lent.specs.Header.{Sent, IssuedBytes}
+
+-- ## The numbers, at the header's places
+
+abbrev pub spanIn : List ℕ → (place : ℕ) → Span
+spanIn s k = record { start = record { 0 = getD s k 0 }; len = getD s (k + 1) 0 }
+
+pub record GivenInPlace (v : ℕ) (s : List ℕ) (g : GivenSpans) : Type 0 where
+  pub version : g .version ≡ v
+  pub sender : g .sender ≡ spanIn s givenSenderPlace
+  pub recipient : g .recipient ≡ spanIn s givenRecipientPlace
+  pub messageTime : g .«message_time» ≡ spanIn s givenMessageTimePlace
+  pub protectionAlg : g .«protection_alg» ≡ spanIn s givenProtectionAlgPlace
+  pub senderKid : g .«sender_kid» ≡ spanIn s givenSenderKidPlace
+  pub recipKid : g .«recip_kid» ≡ spanIn s givenRecipKidPlace
+  pub freeText : g .«free_text» ≡ spanIn s givenFreeTextPlace
+  pub generalInfo : g .«general_info» ≡ spanIn s givenGeneralInfoPlace
+  pub protection : g .protection ≡ spanIn s givenProtectionPlace
+  pub request : g .request ≡ spanIn s givenRequestPlace
+  pub certificate : g .certificate ≡ spanIn s givenCertificatePlace
+
+abbrev pub AllGivenInPlace : Type 0
+AllGivenInPlace = (v : ℕ) (s : List ℕ) → GivenInPlace v s (spansOf v s)
 
 -- what is handed in, by its bytes
 abbrev pub givenIn : (version : ℕ) → (given source : List ℕ) → Given
 givenIn v given src = givenOf src (spansOf v given)
 
+-- ## What the call does, whatever it is handed
+
+-- as many bytes and numbers as the header says
+abbrev pub RightLengths : (out given : List ℕ) → Type 0
+RightLengths out given = (length out ≡ outgoingBytes) × (length given ≡ givenEnd)
+
+-- a number that tells why nothing is written stands in the high 32 bits
+abbrev pub inHighBits : ℕ → ℕ
+inHighBits k = k * 2 ^ 32
+
+-- n is what the call returned, `after` the buffer after it
+pub record WriteAnswers (out given src buf after : List ℕ) (v n : ℕ) : Type 0 where
+  -- 252 for another length, and nothing has changed
+  pub lengths : (RightLengths out given → ⊥) → (n ≡ inHighBits 252) × (after ≡ buf)
+  -- else a refusal k by 34, 35 or 36, and nothing has changed; where there is none, the size, and the message before the buffer's own bytes
+  pub answer :
+      RightLengths out given
+      → (k : ℕ)
+      × RefusalRules (spansInside src (spansOf v given)) (givenIn v given src) (outgoingOf out) (length buf) k
+      × (k ≢ 0 → (n ≡ inHighBits k) × (after ≡ buf))
+      × (k ≡ 0 → (n ≡ length (encode (givenIn v given src) (outgoingOf out))) × (after ≡ encode (givenIn v given src) (outgoingOf out) ++ drop n buf))
+
+abbrev pub AllWriteAnswers : Type 0
+AllWriteAnswers = (out given src buf : List ℕ) (v : ℕ) → WriteAnswers out given src buf (writeBuffer out v given src buf) v (writeNumber out v given src buf)
+
+-- ## What it wrote
+
 -- n is the size that the call returned, `after` the buffer after it
 pub record WroteBytes (out given src buf after : List ℕ) (v n : ℕ) : Type 0 where
+  pub size : n ≡ length (encode (givenIn v given src) (outgoingOf out))
   pub limit : n ≤ maxMessage
+  pub room : n ≤ length buf
   -- the message, then the buffer's own bytes
   pub result : take n after ≡ encode (givenIn v given src) (outgoingOf out)
   pub others : drop n after ≡ drop n buf

@@ -4,7 +4,7 @@ use mathlib.Core.List.{List, [], _++_}
 use mathlib.Core.Bool.{Bool, true, false, cond, true≢false}
 use mathlib.Core.Path.{_≡_, refl, sym, _∙_, ap, subst}
 use native.Mathlib.Omega.{arith}
-use borrow.Author.Tests.{eqb-true}
+use borrow.Author.Tests.{eqb-true, eqb-false}
 use lib.ListN.{length, drop}
 use lib.Seq.{sets, sets-eq}
 use lib.Dec.{eqb}
@@ -50,7 +50,7 @@ module _ (src : List ℕ) (g : GivenSpans) (o : Outgoing) (buf : List ℕ) where
       }
   by false e = record {
     refusal = rules;
-    refused = λ k q. refl;
+    refused = λ k q. (refl, λ z. eqb-false (writeRefusal src g o buf) 0 e (ap refusalIn q ∙ z));
     written = λ n q. absurd (true≢false (sym (ap isBytes q)));
   }
 

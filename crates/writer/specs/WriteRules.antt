@@ -2,6 +2,7 @@
 use Prim.Native.Nat.{ℕ}
 use mathlib.Core.List.{List, _++_}
 use mathlib.Core.Path.{_≡_}
+use mathlib.Core.Logic.{_≢_}
 use lib.ListN.{length, drop}
 use Rattle.protocol.specs.declared.Outgoing.{Outgoing}
 use Rattle.encoding.specs.Message.{encode}
@@ -20,8 +21,8 @@ refusalIn (Refused k) = k
 pub record WriteRules (src : List ℕ) (g : GivenSpans) (o : Outgoing) (buf : List ℕ) (a : Written) (after : List ℕ) : Type 0 where
   -- "Refuse exactly when", "lowest first"
   pub refusal : RefusalRules (spansInside src g) (givenOf src g) o (length buf) (refusalIn a)
-  -- "the buffer then as before"
-  pub refused : (k : ℕ) → a ≡ Refused k → after ≡ buf
+  -- "the buffer then as before"; 0 is no refusal
+  pub refused : (k : ℕ) → a ≡ Refused k → (after ≡ buf) × (k ≢ 0)
   -- "otherwise only the result's bytes change", and the answer says how many
   pub written : (n : ℕ) → a ≡ Bytes n → (n ≡ length (encode (givenOf src g) o)) × (after ≡ encode (givenOf src g) o ++ drop n buf)
 
