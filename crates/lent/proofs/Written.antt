@@ -17,7 +17,7 @@ use Rattle.message.specs.declared.Reading.{Reading}
 use Rattle.protocol.specs.declared.Outgoing.{Outgoing}
 use Rattle.protocol.specs.Bytes.{zeros, bytesOf}
 use Rattle.protocol.specs.Message.{isPresent, optionalPart}
-use Rattle.protocol.specs.Run.{End}
+use Rattle.protocol.specs.Run.{End, World}
 use Rattle.protocol.specs.Agreement.{Issued, IssuedReading}
 use Rattle.packed.specs.Bytes.{AllBytes, part, fourAt, twoAt}
 use Rattle.packed.specs.Places.{idBytes, nonceBytes, hashBytes, outgoingKindAt, outgoingIdAt, outgoingSenderNonceAt, outgoingHasRecipNonceAt, outgoingRecipNonceAt, outgoingHasStatusAt, outgoingStatusAt, outgoingHashAt, outgoingFailureAt, outgoingHasNumberAt, outgoingNumberAt}
@@ -30,6 +30,7 @@ use Rattle.encoding.specs.ReadBack.{Bytes, BytesIf, GivenTyped, OrderTyped, Rea
 use Rattle.encoding.specs.Write.{refusalOf}
 use Rattle.encoding.specs.WriteRules.{RefusalRules}
 use Rattle.encoding.proofs.Inverse.{bytes-part}
+use Rattle.encoding.proofs.Orders.{orders-fit}
 use Rattle.encoding.proofs.Refusals.{refusals}
 use Rattle.encoding.proofs.Written as encoded
 use Rattle.given.specs.declared.GivenSpans.{GivenSpans}
@@ -41,10 +42,11 @@ use Rattle.writer.specs.Write.{writeRefusal, writeAnswer, bufferAfter}
 use Rattle.writer.specs.WriteRules.{WriteRules}
 use Rattle.writer.proofs.WriteRules.{writes}
 use Rattle.duskstall.specs.Write.{notWritten, writtenNumber, writeArgs, writeNumber, writeBuffer}
-use Rattle.lent.specs.Lent.{LentEvent, eventsOf}
+use Rattle.lent.specs.Lent.{LentEvent, eventsOf, lentAfter, lentBeginning, made}
 use Rattle.lent.specs.Header.{Sent, IssuedBytes}
-use Rattle.lent.specs.Written.{AllGivenInPlace, RightLengths, inHighBits, givenIn, WriteAnswers, AllWriteAnswers, WroteBytes, BytesWritten}
+use Rattle.lent.specs.Written.{AllGivenInPlace, RightLengths, inHighBits, givenIn, WriteAnswers, AllWriteAnswers, WroteBytes, BytesWritten, HandedOutFits}
 use Rattle.lent.proofs.Sent.{sent-issued, issued-back}
+use Rattle.lent.proofs.Theorem.{lent-runs}
 
 -- ## What the types say
 
@@ -249,3 +251,11 @@ write-answers out given src buf v = by (writeArgs out given) refl
       lengths = λ wrong. (refl, refl);
       answer = λ right. absurd (true≢false (sym (right-args out given right) ∙ e));
     }
+
+-- HANDED OUT FITS
+pub handed-out-fits : HandedOutFits
+handed-out-fits s e calls p out sent size =
+    let past : List LentEvent = lentAfter (lentBeginning s) calls .past in
+    let q = sent-issued p (λ o. take outgoingBytes o ≡ out) past sent in
+    let gave : Issued p (outgoingOf out) (eventsOf past) = subst (λ (y : Outgoing). Issued p y (eventsOf past)) (first-bytes (q .0) out size (q .1)) (q .2) in
+    orders-fit (made (lentBeginning s) calls) p (outgoingOf out) (subst (λ (w : World). Issued p (outgoingOf out) (w .past)) (lent-runs s e calls .same) gave)

@@ -1,6 +1,7 @@
 -- Writing at the exported call: what duskstall_write returns and leaves in the buffer, from the bytes of a message to be sent as an answer holds them.
 use Prim.Native.Nat.{ℕ, _+_, _*_, _<_, _≤_, _^_}
 use mathlib.Core.List.{List, _++_}
+use mathlib.Core.Bool.{true}
 use mathlib.Core.Path.{_≡_}
 use mathlib.Core.Logic.{_≢_}
 use lib.ListN.{length, take, drop, getD}
@@ -9,7 +10,9 @@ use Rattle.message.specs.Read.{maxMessage, readingOf}
 use Rattle.protocol.specs.Run.{End}
 use Rattle.packed.specs.Bytes.{AllBytes}
 use Rattle.packed.specs.Outgoing.{outgoingBytes, outgoingOf}
+use Rattle.packed.specs.Table.{tableBytes}
 use Rattle.encoding.specs.Given.{Given}
+use Rattle.encoding.specs.Fits.{orderFits}
 use Rattle.encoding.specs.Message.{encode}
 use Rattle.encoding.specs.ReadBack.{ReadsBack}
 use Rattle.encoding.specs.WriteRules.{RefusalRules}
@@ -18,7 +21,7 @@ use Rattle.given.specs.Numbers.{spansOf}
 use Rattle.given.specs.Spans.{givenOf, spansInside}
 use Rattle.duskstall.specs.Write.{writeNumber, writeBuffer}
 use Rattle.lent.specs.HeaderPlaces.{givenSenderPlace, givenRecipientPlace, givenMessageTimePlace, givenProtectionAlgPlace, givenSenderKidPlace, givenRecipKidPlace, givenFreeTextPlace, givenGeneralInfoPlace, givenProtectionPlace, givenRequestPlace, givenCertificatePlace, givenEnd}
-use Rattle.lent.specs.Lent.{LentEvent}
+use Rattle.lent.specs.Lent.{LentCall, LentEvent, lentAfter, lentBeginning}
 use Rattle.lent.specs.Header.{Sent, IssuedBytes}
 
 -- ## The numbers, at the header's places
@@ -93,3 +96,12 @@ BytesWritten =
     (out given src buf : List ℕ) (v n : ℕ) → AllBytes out → AllBytes src → v < 2 ^ 32
     → writeNumber out v given src buf ≡ n → n < 2 ^ 32
     → WroteBytes out given src buf (writeBuffer out v given src buf) v n
+
+-- ## What an answer hands out
+
+-- whatever was called, what an answer held as to be sent is an order that fits, so that 36 is for what the host gives
+abbrev pub HandedOutFits : Type 0
+HandedOutFits =
+    (s : List ℕ) → length s ≡ tableBytes → (calls : List LentCall) (p : End) (out : List ℕ)
+    → Sent p (λ o. take outgoingBytes o ≡ out) (lentAfter (lentBeginning s) calls .past)
+    → length out ≡ outgoingBytes → orderFits (outgoingOf out) ≡ true

@@ -33,7 +33,7 @@ pub enum Written {
     Refused(u8),
 }
 
-// The tag of a body; of a kind above 95 no tag can say it.
+// The tag of a body. Of a kind above 95 the sum would not fit, and nothing is asked: no such kind is written.
 fn body_tag(kind: u8) -> u8
     ensures { λ r. ⌜ (kind < 96 → r ≡ 0xA0 + kind) ⌝ }
 {
