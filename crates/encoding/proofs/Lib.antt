@@ -3,6 +3,7 @@ pub mod Rules
 pub mod Integer
 pub mod Body
 pub mod Status
+pub mod FailureBit
 pub mod Answers
 pub mod Header
 pub mod Message

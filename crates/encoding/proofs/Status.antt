@@ -29,7 +29,7 @@ use Rattle.encoding.proofs.Body.{nothing-next, other-next, same-next}
 
 -- ## A failure bit: the shortest BIT STRING with that bit set
 
-zeros-size : (n : ℕ) → length (zeros n) ≡ n
+pub zeros-size : (n : ℕ) → length (zeros n) ≡ n
 zeros-size n = length-replicate {A = ℕ} n 0
 
 module _ (b : ℕ) where

@@ -1,6 +1,7 @@
 pub mod Element
 pub mod Given
 pub mod Message
+pub mod FailureBit
 pub mod Fits
 pub mod Write
 pub mod ReadBack
