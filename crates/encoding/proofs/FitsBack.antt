@@ -1,7 +1,7 @@
 -- FITS EXACTLY: the given parts fit (36) exactly if the bytes with each at its place are read clean and each is found there.
-use Prim.Native.Nat.{ℕ, _+_, _<_, _≤_}
+use Prim.Native.Nat.{ℕ, _<_, _≤_}
 use mathlib.Core.Path.{_≡_, refl, sym, _∙_, ap, subst}
-use mathlib.Core.List.{List, [], _++_, append-nil}
+use mathlib.Core.List.{List}
 use mathlib.Core.Bool.{Bool, true, false, cond, _&&_, _||_, true≢false}
 use mathlib.Core.Option.{Option, none, some}
 use mathlib.Core.Logic.{_⊎_, inl, inr}
@@ -9,32 +9,37 @@ use native.Mathlib.Nat.{le-refl}
 use native.Mathlib.Omega.{arith}
 use lib.ListN.{length}
 use lib.Dec.{eqb}
-use Rattle.der.specs.Head.{byte}
 use Rattle.der.specs.Content.{bitStringOk}
 use Rattle.der.specs.Element.{check, isElement, isSound}
-use Rattle.der.proofs.Auto.{and-left, and-right}
+use Rattle.der.proofs.Auto.{and-left}
 use Rattle.der.proofs.OneForm.{Bytes}
 use Rattle.grammar.specs.declared.Entry.{Entry}
 use Rattle.grammar.specs.declared.Span.{Span}
+use Rattle.grammar.specs.declared.Message.{Message}
 use Rattle.grammar.specs.declared.pki_body.Contents.{Contents}
+use Rattle.grammar.specs.Span.{partOf}
 use Rattle.grammar.specs.Body.{requestsOf, responsesOf, p10crOf, otherOf, contentsOf}
 use Rattle.grammar.proofs.Places.{Ok}
 use Rattle.message.specs.Read.{maxMessage}
 use Rattle.message.proofs.ReadingLaws.{CleanOf, clean-found}
+use Rattle.protocol.specs.declared.Nonce.{Nonce}
+use Rattle.protocol.specs.declared.Hash.{Hash}
+use Rattle.protocol.specs.declared.FailureInfo.{FailureInfo}
+use Rattle.protocol.specs.declared.OutgoingContents.{OutgoingContents}
 use Rattle.protocol.specs.declared.Outgoing.{Outgoing}
-use Rattle.protocol.specs.Bytes.{present}
-use Rattle.protocol.specs.Message.{isEnrolmentKind, isResponse, optionalPart}
-use Rattle.encoding.specs.Element.{element, field}
+use Rattle.protocol.specs.Bytes.{noNonce, present}
+use Rattle.protocol.specs.Message.{isEnrolmentKind, isResponse, certConf, errorKind, isPresent, optionalPart, optionalStatus, statusOr0}
+use Rattle.protocol.specs.Outgoing.{noContents, withStatus, withHash, withFailure, withNumber}
+use Rattle.encoding.specs.Element.{field}
 use Rattle.encoding.specs.Given.{Given}
-use Rattle.encoding.specs.Message.{contentBytes, bodyBytes, encode}
-use Rattle.encoding.specs.Fits.{ifGiven, isGiven, isAbsent, blank, nameFits, typedFits, textFits, infoFits, headerFits, requestMessageFits, certificateFits, requestFits, responseFits, contentsFit, orderFits, fits}
+use Rattle.encoding.specs.Message.{encode}
+use Rattle.encoding.specs.Fits.{ifGiven, isGiven, isAbsent, blank, nameFits, typedFits, textFits, infoFits, headerFits, requestMessageFits, certificateFits, requestFits, responseFits, contentsWith, contentsFit, orderFits, fits}
 use Rattle.encoding.specs.Write.{refusalOf}
-use Rattle.encoding.specs.ReadBack.{GivenTyped, OrderTyped, ifThere}
+use Rattle.encoding.specs.ReadBack.{GivenTyped, OrderTyped, contentsRead, orderOf, ifThere}
 use Rattle.encoding.specs.FitsRules.{FitsInPlace, FitsExactly, RefusedExactly}
 use Rattle.encoding.specs.WriteRules.{RefusalRules}
-use Rattle.encoding.proofs.Holds.{element-tag}
 use Rattle.encoding.proofs.Sound.{sound-anywhere}
-use Rattle.encoding.proofs.WrittenKinds.{Kind, ir, ip, cr, cp, p10cr, kur, kup, pkiconf, error, certconf, kind-of}
+use Rattle.encoding.proofs.WrittenKinds.{Kind, ir, ip, cr, cp, p10cr, kur, kup, pkiconf, error, certconf, kind-of, kind-named, named}
 use Rattle.encoding.proofs.Refusals.{refusals, unrefused}
 use Rattle.encoding.proofs.Written.{written}
 use Rattle.encoding.proofs.SameBytes.{field-same, body-size}
@@ -90,16 +95,54 @@ in-place g o typed types short h =
     let z : refusalOf true g o n ≡ 0 = refusals true g o n .written .1 (short, le-refl n, refl, h) in
     let u = unrefused true g o n z in
     let w = written true g o n typed types z in
+    let k = kind-of (o .kind) (o .contents) (u .contents) in
     record {
-      order = and-left (orderFits o) _ h;
-      request = request-there (o .kind) (kind-of (o .kind) (o .contents) (u .contents)) (g .request) (u .request);
+      kind = named (o .kind) k;
+      request = request-there (o .kind) k (g .request) (u .request);
       certificate = just-there (isResponse (o .kind) && eqb (o .contents .status) 0) certificateFits (g .certificate) (u .certificate);
       found = w .found;
       clean = w .clean;
+      order = w .order;
       given = w .given;
     }
 
 -- ## From the place to the test
+
+-- the contents that are read of a body of this kind, which has this number, status, hash and failure
+read : (k n s : ℕ) → Hash → FailureInfo → OutgoingContents
+read k n s h f =
+    cond (isResponse k) (withNumber n (withStatus s noContents))
+    (cond (eqb k certConf) (withNumber n (withHash h (withStatus s noContents)))
+    (cond (eqb k errorKind) (withFailure f (withStatus s noContents)) noContents))
+
+read-fits : (k : ℕ) → Kind k → (n s : ℕ) (h : Hash) (f : FailureInfo) → contentsFit k (read k n s h f) ≡ true
+unfolding read contentsFit contentsWith blank
+read-fits _ ir n s h f = refl
+read-fits _ ip n s h f = refl
+read-fits _ cr n s h f = refl
+read-fits _ cp n s h f = refl
+read-fits _ p10cr n s h f = refl
+read-fits _ kur n s h f = refl
+read-fits _ kup n s h f = refl
+read-fits _ pkiconf n s h f = refl
+read-fits _ error n s h f = refl
+read-fits _ certconf n s h f = refl
+
+nonce-unset : (there : Bool) (n : Nonce) → (there || blank (cond there n noNonce .bytes)) ≡ true
+unfolding blank
+nonce-unset true n = refl
+nonce-unset false n = refl
+
+-- an order that was read fits
+order-fits : (m : List ℕ) (x : Message) (f : FailureInfo) → Kind (x .body .kind) → orderFits (orderOf m x f) ≡ true
+unfolding orderOf contentsRead read
+order-fits m x f k =
+    let e : Entry = x .body .entry in
+    let status : ℕ = statusOr0 (optionalStatus (e .«has_status») (e .status)) in
+    rw (
+      nonce-unset (isPresent (x .header .«recip_nonce»)) (record { bytes = partOf m (x .header .«recip_nonce») }),
+      read-fits (x .body .kind) k (e .number) status (record { bytes = partOf m (e .«cert_hash») }) f,
+    )
 
 protection-fits : (m : List ℕ) (bytes : Bytes m) (few : length m < 65536) (p : Option (List ℕ)) → length (field 0xA0 0x03 p) < 65536
     → ((e : List ℕ) → ifThere p (field 0xA0 0x03 p) ≡ some e → Protects m bytes few e) → ifGiven bitStringOk p ≡ true
@@ -200,12 +243,16 @@ module _ (g : Given) (o : Outgoing) (bytes : Bytes (encode g o)) (place : FitsIn
       )
 
   kind-is : place .found .body .kind ≡ o .kind
-  unfolding bodyBytes
-  kind-is =
-      let x : List ℕ = contentBytes g (o .kind) (o .contents) ++ [] in
-      let tag : byte (bodyBytes g o) 0 ≡ 0xA0 + o .kind =
-      ap (λ (l : List ℕ). byte l 0) (sym (append-nil (element (0xA0 + o .kind) x))) ∙ element-tag (0xA0 + o .kind) x [] in
-      omega (arith, sym (walked .kind) ∙ ap (λ (l : List ℕ). byte l 0) (place .given .bodySpan .1) ∙ tag)
+  unfolding orderOf
+  kind-is = ap (λ (z : Outgoing). z .kind) (place .order)
+
+  kind : Kind (o .kind)
+  kind = kind-named (o .kind) (place .kind)
+
+  order-in : orderFits o ≡ true
+  order-in =
+      subst (λ (z : Outgoing). orderFits z ≡ true) (place .order)
+      (order-fits (encode g o) (place .found) (o .contents .failure) (subst Kind (sym kind-is) kind))
 
   body-in : BodyWalked (encode g o) bytes few (o .kind) (place .found .body .entry)
   body-in = subst (λ (k : ℕ). BodyWalked (encode g o) bytes few k (place .found .body .entry)) kind-is (walked .body)
@@ -213,9 +260,6 @@ module _ (g : Given) (o : Outgoing) (bytes : Bytes (encode g o)) (place : FitsIn
   pub fits-by : fits g o ≡ true
   unfolding fits responseFits
   fits-by =
-      let nonce : Bool = o .«has_recip_nonce» || blank (o .«recip_nonce» .bytes) in
-      let contents : contentsFit (o .kind) (o .contents) ≡ true = and-right nonce (contentsFit (o .kind) (o .contents)) (place .order) in
-      let kind : Kind (o .kind) = kind-of (o .kind) (o .contents) contents in
       let e : Entry = place .found .body .entry in
       let b = place .given in
       let request = request-in (encode g o) bytes few e (g .request) (b .request) (o .kind) kind body-in (place .request) in
@@ -225,7 +269,7 @@ module _ (g : Given) (o : Outgoing) (bytes : Bytes (encode g o)) (place : FitsIn
       (λ q.
       certificate-in (encode g o) bytes few e (g .certificate) (b .certificate) (o .kind) kind body-in
       (and-left (isResponse (o .kind)) (eqb (o .contents .status) 0) q)) in
-      rw (place .order, header-in, request, certificate)
+      rw (order-in, header-in, request, certificate)
 
 -- ## The theorem
 
@@ -233,10 +277,7 @@ module _ (g : Given) (o : Outgoing) (bytes : Bytes (encode g o)) (place : FitsIn
 pub fits-exactly : FitsExactly
 fits-exactly g o typed types copied short = (
   in-place g o typed types short,
-  λ p.
-      let nonce : Bool = o .«has_recip_nonce» || blank (o .«recip_nonce» .bytes) in
-      let contents : contentsFit (o .kind) (o .contents) ≡ true = and-right nonce (contentsFit (o .kind) (o .contents)) (p .order) in
-      fits-by g o (encode-bytes g o typed types copied (kind-of (o .kind) (o .contents) contents) (omega arith)) p,
+  λ p. fits-by g o (encode-bytes g o typed types copied (kind-named (o .kind) (p .kind)) (omega arith)) p,
 )
 
 unfit : {X : Type 0} (b : Bool) → (b ≡ true → X) → (X → ⊥) → b ≡ false

@@ -1,14 +1,13 @@
 -- The same of the body and the whole message: a request, a certificate and a protection that were found pass their tests (36) alone.
-use Prim.Native.Nat.{ℕ, _+_, _-_, _/_, _%_, _≤_, _<_}
+use Prim.Native.Nat.{ℕ, _-_, _/_, _%_, _≤_, _<_}
 use mathlib.Core.Path.{_≡_, refl, sym, _∙_, ap, subst}
 use mathlib.Core.List.{List, [], _++_, append-nil}
-use mathlib.Core.Bool.{Bool, true, false, _||_, true≢false}
+use mathlib.Core.Bool.{Bool, true, _||_, true≢false}
 use mathlib.Core.Option.{Option, none, some}
 use native.Mathlib.Omega.{arith}
 use borrow.Author.Tests.{eq-eqb, ltb-false}
 use lib.ListN.{length, length-append}
 use lib.Dec.{ltb, eqb}
-use Rattle.der.specs.Head.{byte}
 use Rattle.der.specs.Content.{bitStringOk}
 use Rattle.der.specs.Element.{constructed, isElement}
 use Rattle.der.proofs.Auto.{or-false-left, or-false-right}
@@ -37,7 +36,7 @@ use Rattle.grammar.proofs.EntryPlaces.{maybe-pair-steps, entry-takes}
 use Rattle.protocol.specs.Message.{isPresent, optionalPart}
 use Rattle.encoding.specs.Element.{element}
 use Rattle.encoding.specs.Fits.{ifGiven, isAbsent, requestMessageFits, certificateFits}
-use Rattle.encoding.proofs.Holds.{Holds, element-tag}
+use Rattle.encoding.proofs.Holds.{Holds}
 use Rattle.encoding.proofs.Only.{between-is}
 use Rattle.encoding.proofs.Sound.{SoundAt}
 use Rattle.encoding.proofs.Apart.{good-below, good-alone, one-element}
@@ -239,25 +238,16 @@ module _ (m : List ℕ) (bytes : Bytes m) (few : length m < 65536) where
   constructed-tag t h k = eq-eqb (t / 32 % 2) 1 (omega arith)
 
   tag-passes : (c : Cursor) → Stands m bytes few 15 c → Ok (bodyTag m c)
-      → Passes m bytes few 14 (tagAt m c) c (bodyTag m c) × (0xA0 ≤ tagAt m c) × (constructed (tagAt m c) ≡ true)
+      → Passes m bytes few 14 (tagAt m c) c (bodyTag m c) × (constructed (tagAt m c) ≡ true)
   unfolding bodyTag
   tag-passes c s =
       let t : ℕ = tagAt m c in
-      cond-both (λ (r : Cursor). Ok r → Passes m bytes few 14 t c r × (0xA0 ≤ t) × (constructed t ≡ true)) (ltb t 0xA0 || ltb 0xBA t)
+      cond-both (λ (r : Cursor). Ok r → Passes m bytes few 14 t c r × (constructed t ≡ true)) (ltb t 0xA0 || ltb 0xBA t)
       (λ q. untrue)
       (λ q k. (
         need-passes m bytes few 14 t c s k,
-        ltb-false t 0xA0 (or-false-left _ (ltb 0xBA t) q),
         constructed-tag t (ltb-false t 0xA0 (or-false-left _ (ltb 0xBA t) q)) (ltb-false 0xBA t (or-false-right (ltb t 0xA0) _ q)),
       ))
-
-  -- the kind is the number of the body's tag
-  tag-byte : (c : Cursor) (k : Ok (bodyTag m c)) → Stands m bytes few 15 c → byte (partOf m (wholeSpan c (bodyTag m c))) 0 ≡ 0xA0 + (tagAt m c - 0xA0)
-  tag-byte c k s =
-      let p = tag-passes c s k in
-      let v : List ℕ = p .0 .content in
-      ap (λ (l : List ℕ). byte l 0) (p .0 .whole ∙ sym (append-nil (element (tagAt m c) v))) ∙ element-tag (tagAt m c) v []
-      ∙ omega (arith, p .1)
 
   -- an entry is what the kind's rule found, before whole elements with 14 levels left
   pub record BodyWalked (k : ℕ) (e : Entry) : Type 0 where
@@ -268,7 +258,6 @@ module _ (m : List ℕ) (bytes : Bytes m) (few : length m < 65536) where
 
   body-walked : (c : Cursor) → Stands m bytes few 15 c → Ok (bodyOf m c .cur)
       → Stands m bytes few 15 (bodyOf m c .cur) × BodyWalked (bodyOf m c .body .kind) (bodyOf m c .body .entry)
-      × (byte (partOf m (wholeSpan c (bodyOf m c .cur))) 0 ≡ 0xA0 + bodyOf m c .body .kind)
   unfolding bodyOf
   body-walked c s k =
       let b : Cursor = bodyTag m c in
@@ -276,8 +265,7 @@ module _ (m : List ℕ) (bytes : Bytes m) (few : length m < 65536) where
       let l = left b (doneOf i) k in
       let t = tag-passes c s (subst Ok (l .1) k) in (
         subst (Stands m bytes few 15) (sym (l .1)) (t .0 .after),
-        record { at = enterOf b; stands = enter-stands m bytes few (t .0) (t .2); ok = ended i (l .0) .0; is = refl },
-        ap (λ (j : Cursor). byte (partOf m (wholeSpan c j)) 0) (l .1) ∙ tag-byte c (subst Ok (l .1) k) s,
+        record { at = enterOf b; stands = enter-stands m bytes few (t .0) (t .1); ok = ended i (l .0) .0; is = refl },
       )
 
   -- ## The message
@@ -285,7 +273,6 @@ module _ (m : List ℕ) (bytes : Bytes m) (few : length m < 65536) where
   pub record MessageWalked (f : Message) : Type 0 where
     pub header : HeaderFits m bytes few (f .header)
     pub body : BodyWalked (f .body .kind) (f .body .entry)
-    pub kind : byte (partOf m (f .«body_span»)) 0 ≡ 0xA0 + f .body .kind
     pub protection : (e : List ℕ) → optionalPart m (f .protection) ≡ some e → Protects e
 
   -- WALKED: where the grammar is met by whole elements, each part that was found passes its test
@@ -308,4 +295,4 @@ module _ (m : List ℕ) (bytes : Bytes m) (few : length m < 65536) where
       let t = need-passes m bytes few 15 0x30 c₀ start (subst Ok (l .1) (o .0)) in
       let header = header-fits m bytes few c (enter-stands m bytes few t refl) kh in
       let body = body-walked h (header .0) kb in
-      record { header = header .1; body = body .1; kind = body .2; protection = protection-fits b (body .0) kp }
+      record { header = header .1; body = body .1; protection = protection-fits b (body .0) kp }

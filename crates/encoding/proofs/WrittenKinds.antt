@@ -19,6 +19,7 @@ use Rattle.protocol.specs.Bytes.{zeros, noHash}
 use Rattle.protocol.specs.Message.{isEnrolmentKind, isResponse, certConf, pkiConf, errorKind}
 use Rattle.protocol.specs.Outgoing.{noContents, withStatus, withHash, withFailure, withNumber}
 use Rattle.encoding.specs.Fits.{isGiven, isAbsent, blank, hasJust, noBit, contentsWith, contentsFit}
+use Rattle.encoding.specs.FitsRules.{isWritten}
 
 pub data Kind : ℕ → Type 0 where
   ir : Kind 0
@@ -39,19 +40,46 @@ or-one : (k : ℕ) (b : Bool) (a : ℕ) → (b ≡ true → Kind k) → Kind a �
 or-one k true a f p h = f refl
 or-one k false a f p h = one k a p h
 
+enrolment-kind : (k : ℕ) → isEnrolmentKind k ≡ true → Kind k
+enrolment-kind k =
+    or-one k (eqb k 0 || eqb k 2 || eqb k 4) 7 (or-one k (eqb k 0 || eqb k 2) 4 (or-one k (eqb k 0) 2 (one k 0 ir) cr) p10cr) kur
+
+response-kind : (k : ℕ) → isResponse k ≡ true → Kind k
+response-kind k = or-one k (eqb k 1 || eqb k 3) 8 (or-one k (eqb k 1) 3 (one k 1 ip) cp) kup
+
 pub kind-of : (k : ℕ) (c : OutgoingContents) → contentsFit k c ≡ true → Kind k
 unfolding contentsFit
 kind-of k c =
     let P : Bool → Type 0 = λ (b : Bool). b ≡ true → Kind k in
-    cond-both P (isEnrolmentKind k || eqb k pkiConf)
-    (λ q h.
-    or-one k (isEnrolmentKind k) 19
-    (or-one k (eqb k 0 || eqb k 2 || eqb k 4) 7
-    (or-one k (eqb k 0 || eqb k 2) 4 (or-one k (eqb k 0) 2 (one k 0 ir) cr) p10cr) kur)
-    pkiconf q) λ q.
-    cond-both P (isResponse k) (λ r h. or-one k (eqb k 1 || eqb k 3) 8 (or-one k (eqb k 1) 3 (one k 1 ip) cp) kup r) λ r.
+    cond-both P (isEnrolmentKind k || eqb k pkiConf) (λ q h. or-one k (isEnrolmentKind k) 19 (enrolment-kind k) pkiconf q) λ q.
+    cond-both P (isResponse k) (λ r h. response-kind k r) λ r.
     cond-both P (eqb k certConf) (λ s h. one k 24 certconf s) λ s.
     cond-both P (eqb k errorKind) (λ t h. one k 23 error t) λ t h. absurd (true≢false (sym h))
+
+-- the ten kinds as they are named
+either : {X : Type 0} (a b : Bool) → (a ≡ true → X) → (b ≡ true → X) → (a || b) ≡ true → X
+either true b f g h = f refl
+either false b f g h = g h
+
+pub kind-named : (k : ℕ) → isWritten k ≡ true → Kind k
+kind-named k =
+    or-one k (isEnrolmentKind k || isResponse k || eqb k pkiConf || eqb k errorKind) 24
+    (or-one k (isEnrolmentKind k || isResponse k || eqb k pkiConf) 23
+    (or-one k (isEnrolmentKind k || isResponse k) 19 (either (isEnrolmentKind k) (isResponse k) (enrolment-kind k) (response-kind k)) pkiconf)
+    error)
+    certconf
+
+pub named : (k : ℕ) → Kind k → isWritten k ≡ true
+named _ ir = refl
+named _ ip = refl
+named _ cr = refl
+named _ cp = refl
+named _ p10cr = refl
+named _ kur = refl
+named _ kup = refl
+named _ pkiconf = refl
+named _ error = refl
+named _ certconf = refl
 
 -- the body's tag may stand, and is constructed
 pub record BodyTag (k : ℕ) : Type 0 where

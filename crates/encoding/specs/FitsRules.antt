@@ -1,8 +1,8 @@
--- Refusal 36 from the other side: "a given element or field doesn't fit document 01's grammar at its place". The parts fit exactly if the
--- bytes with each part at its place are read clean and every part is found there, so that no test of a given part is too strict or too
--- weak. The order's own test, `orderFits`, stands on both sides.
+-- Refusal 36 from the other side: "a given element or field doesn't fit document 01's grammar at its place". An order and its parts fit
+-- exactly if the order is of a kind that is written, and the bytes with each part at its place are read clean, give the order back and have
+-- every part there, so that no test of `Fits`, of a given part or of the order, is too strict or too weak: none stands on the right.
 use Prim.Native.Nat.{ℕ, _≤_}
-use mathlib.Core.Bool.{Bool, true, false, _&&_}
+use mathlib.Core.Bool.{Bool, true, false, _&&_, _||_}
 use mathlib.Core.Path.{_≡_}
 use mathlib.Core.Logic.{_⊎_, _↔_}
 use lib.ListN.{length}
@@ -12,12 +12,12 @@ use Rattle.message.specs.declared.Reading.the-variants.{Clean}
 use Rattle.message.specs.Read.{maxMessage, readingOf}
 use Rattle.protocol.specs.declared.Outgoing.{Outgoing}
 use Rattle.protocol.specs.Bytes.{present}
-use Rattle.protocol.specs.Message.{isEnrolmentKind, isResponse}
+use Rattle.protocol.specs.Message.{isEnrolmentKind, isResponse, certConf, pkiConf, errorKind}
 use Rattle.encoding.specs.Given.{Given}
 use Rattle.encoding.specs.Message.{encode}
-use Rattle.encoding.specs.Fits.{orderFits, fits}
+use Rattle.encoding.specs.Fits.{fits}
 use Rattle.encoding.specs.Write.{refusalOf}
-use Rattle.encoding.specs.ReadBack.{Bytes, BytesIf, GivenTyped, OrderTyped, GivenBack}
+use Rattle.encoding.specs.ReadBack.{Bytes, BytesIf, GivenTyped, OrderTyped, orderOf, GivenBack}
 
 -- What the code's types say of the other parts, which are copied as they are: bytes, too.
 pub record CopiedTyped (g : Given) (o : Outgoing) : Type 0 where
@@ -30,16 +30,21 @@ pub record CopiedTyped (g : Given) (o : Outgoing) : Type 0 where
   pub recipNonce : Bytes (o .«recip_nonce» .bytes)
   pub hash : Bytes (o .contents .hash .bytes)
 
+-- the ten kinds: ir, cr, kur and p10cr; ip, cp and kup; pkiconf, error and certConf. A body of another kind may read clean, too: 5 with NULL
+abbrev pub isWritten : (kind : ℕ) → Bool
+isWritten k = isEnrolmentKind k || isResponse k || eqb k pkiConf || eqb k errorKind || eqb k certConf
+
 pub record FitsInPlace (g : Given) (o : Outgoing) : Type 0 where
-  -- the order is of a kind that is written, and has what its kind has
-  pub order : orderFits o ≡ true
+  pub kind : isWritten (o .kind) ≡ true
   -- ir, cr, kur and p10cr with "a caller's request element", the other kinds without one
   pub request : present (g .request) ≡ isEnrolmentKind (o .kind)
   -- "ip, cp, kup, at status 0 with a caller's certificate", else without one
   pub certificate : present (g .certificate) ≡ (isResponse (o .kind) && eqb (o .contents .status) 0)
-  -- the bytes with each part at its place are read clean, and each part is found at its place
+  -- the bytes with each part at its place are read clean; the order is read back, so that it has what its kind has and nothing else is
+  -- set in it; and each part is found at its place
   pub found : Message
   pub clean : readingOf (encode g o) ≡ Clean found
+  pub order : orderOf (encode g o) found (o .contents .failure) ≡ o
   pub given : GivenBack (encode g o) g o found
 
 -- within the message limit (above it refusal 34 comes first)
