@@ -32,8 +32,13 @@ use Rattle.encoding.proofs.Refusals.{unrefused}
 use Rattle.encoding.proofs.Written.{written}
 
 pub protection-apart : ProtectionApart
-unfolding headerBytes namesBytes optionsBytes idsBytes bodyBytes contentBytes
-protection-apart g o p = (refl, refl)
+unfolding headerBytes namesBytes optionsBytes idsBytes bodyBytes contentBytes encode field
+protection-apart g o p = (
+  refl,
+  refl,
+  append-nil (element 0x30 (headerBytes g o ++ (bodyBytes g o ++ [])))
+      ∙ ap (λ (b : List ℕ). element 0x30 (headerBytes g o ++ b)) (append-nil (bodyBytes g o)),
+)
 
 -- ## Elements with the same bytes hold the same
 

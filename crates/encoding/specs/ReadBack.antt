@@ -1,6 +1,6 @@
 -- "Reading what was written gives the order back": what the reader finds in the bytes that are written, the order and each given part.
 use Prim.Native.Nat.{ℕ, _<_, _^_}
-use mathlib.Core.List.{List}
+use mathlib.Core.List.{List, _++_}
 use mathlib.Core.Bool.{Bool, cond}
 use mathlib.Core.Option.{Option, none, some}
 use mathlib.Core.Path.{_≡_}
@@ -20,7 +20,7 @@ use Rattle.protocol.specs.Message.{isResponse, certConf, errorKind, isPresent, 
 use Rattle.protocol.specs.Outgoing.{noContents, withStatus, withHash, withFailure, withNumber}
 use Rattle.protocol.specs.Run.{Event, End}
 use Rattle.protocol.specs.Agreement.{HasPart, Carries, Issued, IssuedMessage}
-use Rattle.encoding.specs.Element.{field}
+use Rattle.encoding.specs.Element.{element, field}
 use Rattle.encoding.specs.Given.{Given}
 use Rattle.encoding.specs.Message.{headerBytes, bodyBytes, encode}
 use Rattle.encoding.specs.Write.{refusalOf}
@@ -119,11 +119,14 @@ protectedBy p g =
 
 -- ## The claims
 
--- "Protection is handed in": the bytes that it is made of are the same before and after
+-- "Protection is handed in": the bytes that it is made of are the same before and after. What is written without one is itself the
+-- ProtectedPart (RFC 9810 5.1.3), "SEQUENCE { header PKIHeader, body PKIBody }": a host protects that result as it is, and writes again.
 abbrev pub ProtectionApart : Type 0
 ProtectionApart =
     (g : Given) (o : Outgoing) (p : Option (List ℕ))
-    → (headerBytes (protectedBy p g) o ≡ headerBytes g o) × (bodyBytes (protectedBy p g) o ≡ bodyBytes g o)
+    → (headerBytes (protectedBy p g) o ≡ headerBytes g o)
+    × (bodyBytes (protectedBy p g) o ≡ bodyBytes g o)
+    × (encode (protectedBy none g) o ≡ element 0x30 (headerBytes g o ++ bodyBytes g o))
 
 -- the bytes read clean, and as the order and the given parts; for demand 3 they carry the order
 pub record ReadsBack (g : Given) (o : Outgoing) : Type 0 where
