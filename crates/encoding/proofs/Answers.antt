@@ -88,7 +88,7 @@ module _ (m : List ℕ) (few : length m < 65536) where
 
   pub confirmations-are : (x : List ℕ) (n s : ℕ) (c : Cursor) → n < 4294967296 → s < 4294967296
       → Holds m c (confirmationsBytes x n s ++ []) → ContentsAre m (confirmSaid x n s) (confirmationsOf m c)
-  unfolding confirmationsBytes confirmationsOf entryOf tagOk
+  unfolding confirmationsBytes confirmationsOf entryOf tagOk ShowsIf
   confirmations-are x n s c wn ws h =
       let o : Cursor = needOf m 0x30 c in
       let inside : List ℕ = element 0x30 (insideStatus x n s) ++ [] in
@@ -99,6 +99,7 @@ module _ (m : List ℕ) (few : length m < 65536) where
       subst (λ (j : Entries). ContentsAre m (confirmSaid x n s) (fromEntries (leaveOf o (j .cur)) noSpan j)) (sym one)
       (record {
         left = subst (λ (k : Cursor). Holds m k []) (sym (leave-is o (certStatusOf m (enterOf o) .cur) (e .left))) (t .left);
+        caPubs = (refl, refl);
         says = e .says;
       })
 
@@ -121,6 +122,7 @@ module _ (m : List ℕ) (few : length m < 65536) where
       ∙ out-is o (noneOf (noneOf k)) (none-holds (noneOf k) k1) in
       record {
         left = subst (λ (j : Cursor). Holds m j []) (sym out) (t .left);
+        caPubs = (refl, refl);
         says =
             record {
               entries = refl;
@@ -223,7 +225,7 @@ module _ (m : List ℕ) (few : length m < 65536) where
 
   pub responses-are : (n s : ℕ) (v : Option (List ℕ)) (c : Cursor) → Certificates v → n < 4294967296 → s < 4294967296
       → Holds m c (responsesBytes n s v ++ []) → ContentsAre m (responseSaid n s v) (responsesOf m c)
-  unfolding responsesBytes responsesOf entryOf sequenceField tagOk
+  unfolding responsesBytes responsesOf entryOf sequenceField tagOk ShowsIf
   responses-are n s v c cert wn ws h =
       let o : Cursor = needOf m 0x30 c in
       let x : List ℕ = element 0x30 (insideResponse n s v) ++ [] in
@@ -243,5 +245,6 @@ module _ (m : List ℕ) (few : length m < 65536) where
       subst (λ (j : Entries). ContentsAre m (responseSaid n s v) (contents j)) (sym one)
       (record {
         left = subst (λ (k : Cursor). Holds m k []) (sym out) (t .left);
+        caPubs = subst (λ (j : Cursor). ShowsIf m (foundSpan j) none) (sym none-there) (refl, refl);
         says = r .says;
       })

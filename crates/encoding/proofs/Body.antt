@@ -69,6 +69,7 @@ nothing = record { entries = 0; number = 0; status = none; hash = none; certific
 -- the content is read to its end, and says this
 pub record ContentsAre (m : List ℕ) (s : Said) (i : Contents) : Type 0 where
   pub left : Holds m (i .cur) []
+  pub caPubs : ShowsIf m (i .«ca_pubs») none
   pub says : Shown m s (i .entries) (i .entry)
 
 module _ (m : List ℕ) (few : length m < 65536) where
@@ -136,12 +137,18 @@ module _ (m : List ℕ) (few : length m < 65536) where
           let at : ℕ → Contents = λ (j : ℕ). contentsOf m j (enterOf (bodyTag m c)) in
           subst (λ (j : ℕ). Shown m s (at j .entries) (at j .entry)) (sym kind-here) (i .says)
 
+      pub no-pubs-here : (s : Said) → ContentsAre m s (contentsOf m k (enterOf (bodyTag m c))) → ShowsIf m (bodyOf m c .body .«ca_pubs») none
+      unfolding bodyOf
+      no-pubs-here s i =
+          subst (λ (j : ℕ). ShowsIf m (contentsOf m j (enterOf (bodyTag m c)) .«ca_pubs») none) (sym kind-here) (i .caPubs)
+
   -- pkiconf: NULL
   pub null-is : (c : Cursor) → Holds m c (element 0x05 [] ++ []) → ContentsAre m nothing (contentsOf m 19 c)
   unfolding contentsOf otherOf tagOk ShowsIf nothing
   null-is c h =
       record {
         left = need-took m c 0x05 [] [] few refl h .left;
+        caPubs = (refl, refl);
         says =
             record {
               entries = refl;

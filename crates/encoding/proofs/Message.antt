@@ -28,7 +28,7 @@ use Rattle.encoding.proofs.Holds.{Holds, need-took, done-is, out-is}
 use Rattle.encoding.proofs.Rules.{Shows, ShowsIf, whole-shows, moved, Passed, field-passed, ReadsIf, around-passed}
 use Rattle.encoding.proofs.Rules.Beyond.{ends}
 use Rattle.encoding.proofs.Header.{Fits, HeaderShows, header-is}
-use Rattle.encoding.proofs.Body.{Said, Shown, ContentsAre, tag-took, body-is, says-here}
+use Rattle.encoding.proofs.Body.{Said, Shown, ContentsAre, tag-took, body-is, says-here, no-pubs-here}
 
 -- WHAT A READING GIVES BACK: the four parts, the header's fields, and what the body says
 pub record Back (g : Given) (o : Outgoing) (s : Said) (x : Message) : Type 0 where
@@ -38,6 +38,7 @@ pub record Back (g : Given) (o : Outgoing) (s : Said) (x : Message) : Type 0 whe
   pub extraCerts : ShowsIf (encode g o) (x .«extra_certs») none
   pub header : HeaderShows (encode g o) g o (x .header)
   pub kind : x .body .kind ≡ o .kind
+  pub caPubs : ShowsIf (encode g o) (x .body .«ca_pubs») none
   pub says : Shown (encode g o) s (x .body .entries) (x .body .entry)
 
 outer-shows : (m : List ℕ) (v : Option (List ℕ)) (rest : List ℕ) (c r : Cursor) (tag inner : ℕ) → 0 < c .at
@@ -116,6 +117,7 @@ module _
                 extraCerts = none-outer m p xc (y .shows);
                 header = h .header;
                 kind = b .kind;
+                caPubs = no-pubs-here m few (o .kind) low tags hc (content g o ++ []) afterBody (h .left) said i;
                 says = says-here m few (o .kind) low tags hc (content g o ++ []) afterBody (h .left) said i;
               };
         }

@@ -27,7 +27,7 @@ use Rattle.encoding.specs.Element.{field}
 use Rattle.encoding.specs.Given.{Given}
 use Rattle.encoding.specs.Message.{headerBytes, failureBits, requestsBytes, responsesBytes, errorBytes, contentBytes, bodyBytes, encode}
 use Rattle.encoding.specs.Fits.{isGiven, isAbsent, headerFits, requestMessageFits, certificateFits, requestFits, responseFits, contentsWith, contentsFit}
-use Rattle.encoding.specs.ReadBack.{Bytes, BytesIf, GivenTyped, OrderTyped}
+use Rattle.encoding.specs.ReadBack.{Bytes, BytesIf, GivenTyped, OrderTyped, hasEntry}
 use Rattle.encoding.proofs.Holds.{Holds, some-bytes}
 use Rattle.encoding.proofs.Sound.{Whole-element, given-element, Sounds, none-sounds, given-sounds}
 use Rattle.encoding.proofs.Body.{Said, nothing, ContentsAre, null-is}
@@ -55,6 +55,7 @@ abbrev pub StatusSaid : ℕ → Option ℕ → ℕ → Type 0
 StatusSaid k said s = (said ≡ some s) ⊎ ((k ≡ 24) × (said ≡ none) × (s ≡ 0))
 
 pub record Tells (g : Given) (k : ℕ) (c : OutgoingContents) (s : Said) : Type 0 where
+  pub entries : s .entries ≡ cond (hasEntry k) 1 0
   pub request : s .request ≡ g .request
   pub certificate : s .certificate ≡ g .certificate
   pub status : c .«has_status» ≡ true → StatusSaid k (s .status) (c .status)
@@ -134,12 +135,12 @@ module _ (g : Given) (typed : GivenTyped g) (fit : headerFits g ≡ true) (o : O
 
     -- 0 ir, 2 cr, 7 kur
     requesting : (k : ℕ) → o .kind ≡ k → Kind k → contentBytes g k c ≡ requestsBytes (bytesOf (g .request))
-        → ((y : List ℕ) (z : Cursor) → contentsOf y k z ≡ requestsOf y z) → (k ≡ 24 → ⊥)
+        → ((y : List ℕ) (z : Cursor) → contentsOf y k z ≡ requestsOf y z) → (k ≡ 24 → ⊥) → hasEntry k ≡ true
         → ((s : Said) (f : FailureInfo) → contentsSaid k s f ≡ noContents)
         → contentsWith false false false false c ≡ true → isGiven requestMessageFits (g .request) ≡ true
         → isAbsent (g .certificate) ≡ true → Reads g o
     unfolding c
-    requesting k e kind is rule other none-said cs rq ca =
+    requesting k e kind is rule other one none-said cs rq ca =
         let r = given-is requestMessageFits (g .request) rq in
         let bytes : Bytes (r .0) = subst BytesIf (r .1) (typed .request) in
         let p = request-is (r .0) bytes (r .2) in
@@ -148,6 +149,7 @@ module _ (g : Given) (typed : GivenTyped g) (fit : headerFits g ≡ true) (o : O
         (requests-sound (r .0) (request-sound (r .0) bytes (r .2)))
         (λ z pos h. subst (ContentsAre m s) (sym (rule m z)) (requests-are m few (r .0) p z h))
         (record {
+          entries = rw one;
           request = sym (r .1);
           certificate = sym (absent-is (g .certificate) ca);
           status = λ h. absurd (true≢false (sym h ∙ no-status c (types .hash) cs));
@@ -165,6 +167,7 @@ module _ (g : Given) (typed : GivenTyped g) (fit : headerFits g ≡ true) (o : O
         at-kind (p10crSaid (r .0)) 4 (r .0) e p10cr (ap bytesOf (r .1)) (given-sounds 13 [] w (none-sounds 14))
         (λ z pos h. p10cr-is m few (r .0) (w .tag) (w .content) (w .is) (w .good .tags) z pos h)
         (record {
+          entries = refl;
           request = sym (r .1);
           certificate = sym (absent-is (g .certificate) ca);
           status = λ h. absurd (true≢false (sym h ∙ no-status c (types .hash) cs));
@@ -174,12 +177,12 @@ module _ (g : Given) (typed : GivenTyped g) (fit : headerFits g ≡ true) (o : O
 
     -- 1 ip, 3 cp, 8 kup
     responding : (k : ℕ) → o .kind ≡ k → Kind k → contentBytes g k c ≡ responsesBytes (c .number) (c .status) (g .certificate)
-        → ((y : List ℕ) (z : Cursor) → contentsOf y k z ≡ responsesOf y z) → (k ≡ 24 → ⊥)
+        → ((y : List ℕ) (z : Cursor) → contentsOf y k z ≡ responsesOf y z) → (k ≡ 24 → ⊥) → hasEntry k ≡ true
         → ((s : Said) (f : FailureInfo) → contentsSaid k s f ≡ withNumber (s .number) (withStatus (statusOr0 (s .status)) noContents))
         → contentsWith true true false false c ≡ true → isAbsent (g .request) ≡ true
         → cond (eqb (c .status) 0) (isGiven certificateFits (g .certificate)) (isAbsent (g .certificate)) ≡ true → Reads g o
     unfolding c
-    responding k e kind is rule other said cs rq ca =
+    responding k e kind is rule other one said cs rq ca =
         let q = certificate-if (eqb (c .status) 0) (g .certificate) (typed .certificate) ca in
         let s : Said = responseSaid (c .number) (c .status) (g .certificate) in
         at-kind s k (responsesBytes (c .number) (c .status) (g .certificate)) e kind is
@@ -188,6 +191,7 @@ module _ (g : Given) (typed : GivenTyped g) (fit : headerFits g ≡ true) (o : O
         subst (ContentsAre m s) (sym (rule m z))
         (responses-are m few (c .number) (c .status) (g .certificate) z (q .1) (types .number) (types .status) h))
         (record {
+          entries = rw one;
           request = sym (absent-is (g .request) rq);
           certificate = refl;
           status = λ h. inl refl;
@@ -204,6 +208,7 @@ module _ (g : Given) (typed : GivenTyped g) (fit : headerFits g ≡ true) (o : O
         at-kind s 24 _ e certconf refl (confirmations-sound (c .hash .bytes) (c .number) (c .status) (types .number) (types .status))
         (λ z pos h. confirmations-are m few (c .hash .bytes) (c .number) (c .status) z (types .number) (types .status) h)
         (record {
+          entries = refl;
           request = sym (absent-is (g .request) rq);
           certificate = sym (absent-is (g .certificate) ca);
           status = λ h. confirm-status (c .status) (eqb (c .status) 0) refl;
@@ -222,6 +227,7 @@ module _ (g : Given) (typed : GivenTyped g) (fit : headerFits g ≡ true) (o : O
         at-kind (errorSaid (c .status)) 23 _ e error refl (error-sounds (c .status) (c .failure) (types .status))
         (λ z pos h. error-is m few (c .status) (failureBits (c .failure)) z (types .status) (bits-set (c .failure)) h)
         (record {
+          entries = refl;
           request = sym (absent-is (g .request) rq);
           certificate = sym (absent-is (g .certificate) ca);
           status = λ h. inl refl;
@@ -236,6 +242,7 @@ module _ (g : Given) (typed : GivenTyped g) (fit : headerFits g ≡ true) (o : O
     null-reads e cs rq ca =
         at-kind nothing 19 _ e pkiconf refl null-sounds (λ z pos h. null-is m few z h)
         (record {
+          entries = refl;
           request = sym (absent-is (g .request) rq);
           certificate = sym (absent-is (g .certificate) ca);
           status = λ h. absurd (true≢false (sym h ∙ no-status c (types .hash) cs));
@@ -246,13 +253,13 @@ module _ (g : Given) (typed : GivenTyped g) (fit : headerFits g ≡ true) (o : O
     by-kind : (k : ℕ) → o .kind ≡ k → Kind k → contentsFit k c ≡ true → requestFits k (g .request) ≡ true
         → responseFits k (c .status) (g .certificate) ≡ true → Reads g o
     unfolding contentBytes contentsOf contentsSaid contentsFit requestFits responseFits
-    by-kind _ e ir = requesting 0 e ir refl (λ y z. refl) (λ h. omega arith) (λ s f. refl)
-    by-kind _ e cr = requesting 2 e cr refl (λ y z. refl) (λ h. omega arith) (λ s f. refl)
-    by-kind _ e kur = requesting 7 e kur refl (λ y z. refl) (λ h. omega arith) (λ s f. refl)
+    by-kind _ e ir = requesting 0 e ir refl (λ y z. refl) (λ h. omega arith) refl (λ s f. refl)
+    by-kind _ e cr = requesting 2 e cr refl (λ y z. refl) (λ h. omega arith) refl (λ s f. refl)
+    by-kind _ e kur = requesting 7 e kur refl (λ y z. refl) (λ h. omega arith) refl (λ s f. refl)
     by-kind _ e p10cr = p10cr-reads e
-    by-kind _ e ip = responding 1 e ip refl (λ y z. refl) (λ h. omega arith) (λ s f. refl)
-    by-kind _ e cp = responding 3 e cp refl (λ y z. refl) (λ h. omega arith) (λ s f. refl)
-    by-kind _ e kup = responding 8 e kup refl (λ y z. refl) (λ h. omega arith) (λ s f. refl)
+    by-kind _ e ip = responding 1 e ip refl (λ y z. refl) (λ h. omega arith) refl (λ s f. refl)
+    by-kind _ e cp = responding 3 e cp refl (λ y z. refl) (λ h. omega arith) refl (λ s f. refl)
+    by-kind _ e kup = responding 8 e kup refl (λ y z. refl) (λ h. omega arith) refl (λ s f. refl)
     by-kind _ e certconf = confirm-reads e
     by-kind _ e error = error-reads e
     by-kind _ e pkiconf = null-reads e

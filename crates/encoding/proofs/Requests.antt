@@ -111,7 +111,7 @@ module _ (m : List ℕ) (few : length m < 65536) where
   -- ir, cr, kur around one request message
   pub requests-are : (e : List ℕ) (p : Request e) (c : Cursor) → Holds m c (requestsBytes e ++ [])
       → ContentsAre m (requestSaid e (signed32 (p .number))) (requestsOf m c)
-  unfolding requestsBytes requestsOf entryOf atLeastOne tagOk
+  unfolding requestsBytes requestsOf entryOf atLeastOne tagOk ShowsIf
   requests-are e p c h =
       let s : Cursor = needOf m 0x30 c in
       let t = need-took m c 0x30 (e ++ []) [] few refl h in
@@ -124,6 +124,7 @@ module _ (m : List ℕ) (few : length m < 65536) where
       subst (λ (j : Entries). ContentsAre m (requestSaid e (signed32 (p .number))) (contents j)) (sym one)
       (record {
         left = subst (λ (k : Cursor). Holds m k []) (sym (leave-is s (requestOf m (enterOf s) .cur) (r .0))) (t .left);
+        caPubs = (refl, refl);
         says = r .1;
       })
 
@@ -138,6 +139,7 @@ module _ (m : List ℕ) (few : length m < 65536) where
       rw a
       (record {
         left = t .left;
+        caPubs = (refl, refl);
         says =
             record {
               entries = refl;

@@ -145,6 +145,9 @@ module _ (g : Given) (o : Outgoing) (types : OrderTyped o) (unset : Unset o) (r 
         request = optional-is m (x .body .entry .request) (r .said .request) (b .says .request) ∙ r .tells .request;
         certificate = optional-is m (x .body .entry .certificate) (r .said .certificate) (b .says .certificate) ∙ r .tells .certificate;
         protection = optional-is m (x .protection) _ (b .protection);
+        entries = b .says .entries ∙ r .tells .entries;
+        caPubs = optional-is m (x .body .«ca_pubs») none (b .caPubs);
+        hashAlg = optional-is m (x .body .entry .«hash_alg») none (b .says .hashAlg);
         extraCerts = optional-is m (x .«extra_certs») none (b .extraCerts);
         headerSpan = has (x .«header_span») (b .headerSpan);
         bodySpan = has (x .«body_span») (b .bodySpan);

@@ -1,6 +1,6 @@
--- Which bit of a failInfo is set, in X.690's words on a BIT STRING's content (8.6.2): "an initial octet followed by zero, one or more
--- subsequent octets"; the initial one says "the number of unused bits in the final subsequent octet", and the bits, "commencing with the
--- leading bit", stand "in bits 8 to 1 of the first subsequent octet, followed by bits 8 to 1 of the second".
+-- Which bit of a failInfo is set, as X.690 has a BIT STRING's content (8.6.2): a first byte that says how many bits of the last byte are
+-- unused, then the bits in order, from the most significant bit of the first byte after it to its least significant one, then those of the
+-- second, and so on.
 use Prim.Native.Nat.{ℕ, _+_, _-_, _*_, _/_, _%_, _^_, _<_}
 use mathlib.Core.List.{List}
 use mathlib.Core.Bool.{Bool, true}

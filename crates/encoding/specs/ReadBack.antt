@@ -1,7 +1,7 @@
 -- "Reading what was written gives the order back": what the reader finds in the bytes that are written, the order and each given part.
 use Prim.Native.Nat.{ℕ, _<_, _^_}
 use mathlib.Core.List.{List, _++_}
-use mathlib.Core.Bool.{Bool, cond}
+use mathlib.Core.Bool.{Bool, cond, _||_}
 use mathlib.Core.Option.{Option, none, some}
 use mathlib.Core.Path.{_≡_}
 use lib.ListN.{length}
@@ -80,7 +80,11 @@ abbrev pub ifThere : Option (List ℕ) → List ℕ → Option (List ℕ)
 ifThere none x = none
 ifThere (some v) x = some x
 
--- each at its place, and there exactly if it is given
+-- ir, cr and kur, with one request; ip, cp and kup, with one response; certConf, with one certificate status
+abbrev pub hasEntry : (kind : ℕ) → Bool
+hasEntry k = eqb k 0 || eqb k 2 || eqb k 7 || isResponse k || eqb k certConf
+
+-- each at its place, and there exactly if it is given; and nothing that is neither given nor in the order
 pub record GivenBack (bytes : List ℕ) (g : Given) (o : Outgoing) (m : Message) : Type 0 where
   pub version : m .header .version ≡ g .version
   pub sender : HasPart bytes (m .header .sender) (g .sender)
@@ -94,6 +98,9 @@ pub record GivenBack (bytes : List ℕ) (g : Given) (o : Outgoing) (m : Message)
   pub request : optionalPart bytes (m .body .entry .request) ≡ g .request
   pub certificate : optionalPart bytes (m .body .entry .certificate) ≡ g .certificate
   pub protection : optionalPart bytes (m .protection) ≡ ifThere (g .protection) (field 0xA0 0x03 (g .protection))
+  pub entries : m .body .entries ≡ cond (hasEntry (o .kind)) 1 0
+  pub caPubs : optionalPart bytes (m .body .«ca_pubs») ≡ none
+  pub hashAlg : optionalPart bytes (m .body .entry .«hash_alg») ≡ none
   pub extraCerts : optionalPart bytes (m .«extra_certs») ≡ none
   -- what the host protects (RFC 9810 5.1.3): these two, neither of which depends on the protection (`ProtectionApart`)
   pub headerSpan : HasPart bytes (m .«header_span») (headerBytes g o)
