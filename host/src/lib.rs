@@ -105,7 +105,7 @@ pub use states::{
     TABLE_BYTES, TRANSACTION_BYTES, TRANSACTION_STATES,
 };
 pub use types::{Reading, Refused, Span};
-pub use writer::{protected_part, write, write_protected, Given};
+pub use writer::{write, write_protected, Given};
 
 /// The README's example in Rust.
 #[cfg(doctest)]

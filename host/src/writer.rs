@@ -1,10 +1,8 @@
 //! Messages written by the compiled library, and their protection.
 
-use crate::compiled;
 use crate::ends::Outgoing;
 use crate::library::{self, GIVEN};
 use crate::refusal::Refusal;
-use crate::types::Reading;
 
 /// What the host gives for a message beside what is to be sent: pvno, and parts
 /// in DER. "Element" means with tag and length, "content" without.
@@ -91,6 +89,7 @@ impl<'a> Given<'a> {
 
 /// Writes a message, and gives its size: it is the buffer's first bytes, and the
 /// others are as before. Refused by 34, 35 and 36, with the buffer as before.
+/// Without protection it is what protection is made of, see [`write_protected`].
 ///
 /// ```
 /// use duskstall_host::{write, EndEntity, FreshNonce, Given, TransactionId};
@@ -130,11 +129,12 @@ fn written(answer: u64) -> Result<usize, Refusal> {
     }
 }
 
-/// Writes a message and protects it: `protect` is handed the ProtectedPart in DER
-/// (RFC 9810 5.1.3) and gives the protection in whole bytes. The algorithm's name
-/// is in what is given; a protection there is replaced. Gives the size, or a
-/// refusal as [`write()`] does, after which the buffer may hold the message without
-/// protection.
+/// Writes a message and protects it: `protect` is handed the message as it is
+/// written without protection, which is the ProtectedPart in DER (RFC 9810 5.1.3),
+/// the SEQUENCE of header and body. It gives the protection in whole bytes. The
+/// algorithm's name is in what is given; a protection there is replaced. Gives the
+/// size, or a refusal as [`write()`] does, after which the buffer may hold the
+/// message without protection.
 ///
 /// ```
 /// use duskstall_host::{compiled, write_protected, EndEntity, FreshNonce, Given, TransactionId};
@@ -166,28 +166,13 @@ pub fn write_protected(
         ..*given
     };
     let size = write(outgoing, &plain, buffer)?;
-    let message = &buffer[..size];
-    let reading = compiled::read(message).map_err(|_| Refusal::OUTSIDE_CONTRACT)?;
-    let bits = protect(&protected_part(message, &reading));
+    let bits = protect(&buffer[..size]);
     let protection = [&[0], &bits[..]].concat();
     let protected = Given {
         protection: Some(&protection),
         ..plain
     };
     write(outgoing, &protected, buffer)
-}
-
-/// What protection is made of and verified by: the DER SEQUENCE of header and
-/// body, which no message holds as such.
-pub fn protected_part(message: &[u8], reading: &Reading) -> Vec<u8> {
-    let header_and_body = &message[reading.header.start..][..reading.protected_len];
-    let [high, low] = (reading.protected_len as u16).to_be_bytes();
-    let head: &[u8] = match reading.protected_len {
-        0..=0x7F => &[0x30, low],
-        0x80..=0xFF => &[0x30, 0x81, low],
-        _ => &[0x30, 0x82, high, low],
-    };
-    [head, header_and_body].concat()
 }
 
 #[cfg(test)]
@@ -204,22 +189,6 @@ mod tests {
         }
         for number in [1, 33, 37, 252] {
             assert_eq!(written(number << 32), Err(Refusal::OUTSIDE_CONTRACT));
-        }
-    }
-
-    #[test]
-    fn protected_part_on_both_sides_of_each_length_form() {
-        for (len, head) in [
-            (0x7F, &[0x30, 0x7F][..]),
-            (0x80, &[0x30, 0x81, 0x80]),
-            (0xFF, &[0x30, 0x81, 0xFF]),
-            (0x100, &[0x30, 0x82, 0x01, 0x00]),
-        ] {
-            let mut reading = Reading::default();
-            (reading.header.start, reading.protected_len) = (3, len);
-            let message = vec![0xA5; 3 + len + 9];
-            let part = protected_part(&message, &reading);
-            assert_eq!(part, [head, &message[3..][..len]].concat());
         }
     }
 }

@@ -16,6 +16,8 @@ mod examples;
 mod lengths;
 #[path = "writer/openssl.rs"]
 mod openssl;
+#[path = "writer/protected.rs"]
+mod protected;
 #[path = "writer/random_calls.rs"]
 mod random_calls;
 #[path = "writer/source.rs"]

@@ -1,5 +1,6 @@
 //! Messages of another implementation, with what the library reads in them.
 
+use super::der::Node;
 use super::sha256::sha256;
 use crate::{compiled, independent};
 use crate::{CertHash, FreshNonce, Given, Nonce, Outgoing, Reading, Span, TransactionId};
@@ -30,6 +31,13 @@ impl Received {
     /// The bytes of a part of it; none if it is absent.
     pub fn part(&self, span: Span) -> &[u8] {
         &self.bytes[span.start..][..span.len]
+    }
+
+    /// What its protection is verified by: the ProtectedPart in DER (RFC 9810,
+    /// 5.1.3), the SEQUENCE of header and body, which stand side by side in it.
+    pub fn protected_part(&self) -> Vec<u8> {
+        let content = &self.bytes[self.reading.header.start..][..self.reading.protected_len];
+        Node::primitive(0x30, content).encode()
     }
 
     fn sixteen(&self, span: Span) -> [u8; 16] {

@@ -82,11 +82,10 @@ impl PasswordBased {
         (self.mac.1)(&key, part)
     }
 
-    /// The protection, `[0]`, of a header and a body, which are the content of a
-    /// ProtectedPart.
-    fn protection(&self, protected: &[u8]) -> Node {
-        let part = Node::primitive(0x30, protected).encode();
-        Node::explicit(0, Node::bits(0, &self.mac(&part)))
+    /// The protection, `[0]`, of a message that was sent.
+    fn protection(&self, message: &Received) -> Node {
+        let mac = self.mac(&message.protected_part());
+        Node::explicit(0, Node::bits(0, &mac))
     }
 }
 
@@ -100,7 +99,6 @@ fn content(node: &Node) -> Option<&[u8]> {
 /// Whether a message is protected under the board's password.
 pub fn is_good(message: &Received) -> bool {
     let reading = &message.reading;
-    let protected = &message.bytes[reading.header.start..][..reading.protected_len];
     PasswordBased::read(message.part(reading.protection_alg))
-        .is_some_and(|pbm| message.part(reading.protection) == pbm.protection(protected).encode())
+        .is_some_and(|pbm| message.part(reading.protection) == pbm.protection(message).encode())
 }

@@ -1,5 +1,6 @@
 //! What our ends decided to send, written by the library and protected by the
-//! host here.
+//! host here: the MAC is made of the bytes that are written without protection, as
+//! they are.
 
 use super::draw::draw;
 use super::protection::{PasswordBased, REFERENCE};
@@ -31,7 +32,7 @@ pub fn message(outgoing: &Outgoing, enclosed: Option<&[u8]>) -> Vec<u8> {
         ..Given::new(2, &name, &name)
     };
     let mut buffer = vec![0; MESSAGE_LIMIT];
-    let size = write_protected(outgoing, &given, &mut buffer, |part| pbm.mac(part));
+    let size = write_protected(outgoing, &given, &mut buffer, |plain| pbm.mac(plain));
     buffer.truncate(size.expect("what our ends decided can be written"));
     buffer
 }

@@ -1,13 +1,13 @@
 //! Orders and parts drawn at random.
 
 use super::back::reads_back;
+use super::protected::first_is_protected_part;
 use super::random_calls::{draw, room};
 use super::source::Source;
 use super::tally::Tally;
 use duskstall_host::independent::writer::{Field, Misfit, Part, Why, PARTS};
 use duskstall_host::testing::random::Random;
-use duskstall_host::testing::received::Received;
-use duskstall_host::testing::writing::{Call, KINDS};
+use duskstall_host::testing::writing::KINDS;
 use duskstall_host::MESSAGE_LIMIT;
 use std::collections::BTreeSet;
 use std::time::Instant;
@@ -34,7 +34,7 @@ fn two_million_random_calls() {
             reads_back(&call, &message);
             if call.part(Part::Protection).is_some() && random.once_in(8) {
                 protected += 1;
-                same_without_protection(&call, &message);
+                first_is_protected_part(&call, message);
             }
         }
     }
@@ -43,22 +43,6 @@ fn two_million_random_calls() {
     println!("  {:.1?}", started.elapsed());
     nothing_is_missing(&tally);
     assert!(protected > 10_000);
-}
-
-/// Header and body do not depend on the protection, which is made of them.
-fn same_without_protection(call: &Call, message: &[u8]) {
-    let mut call = call.clone();
-    call.set(Part::Protection, [0, 0]);
-    let mut buffer = vec![0; MESSAGE_LIMIT];
-    let size = call.by_library(&mut buffer) as usize;
-    let plain = Received::read(buffer[..size].to_vec());
-    let whole = Received::read(message.to_vec());
-    for part in [
-        |m: &Received| m.reading.header,
-        |m: &Received| m.reading.body,
-    ] {
-        assert_eq!(plain.part(part(&plain)), whole.part(part(&whole)));
-    }
 }
 
 /// Every kind was written, every reason met, and the lowest number given where
