@@ -87,10 +87,9 @@ static void write_message(struct ends *e, const uint8_t *outgoing, const struct 
     expect(e->len != 0, "a message written");
 }
 
-/* Writes what the last call gave to be sent, protects header and body, and writes it once more with the protection. */
+/* Writes what the last call gave to be sent, protects these bytes, and writes it once more with the protection. */
 static void send_from(struct ends *e, const uint8_t *outgoing, int sender)
 {
-    uint64_t fields[DUSKSTALL_FIELDS];
     uint8_t protection[1 + PROTECTION_BYTES] = {0}; /* no unused bits */
     expect(outgoing != NULL, "something to send");
     e->len = 0;
@@ -98,12 +97,9 @@ static void send_from(struct ends *e, const uint8_t *outgoing, int sender)
         return;
     struct given g = given_for(outgoing, sender);
     write_message(e, outgoing, &g);
-    if (duskstall_read(e->message, e->len, fields, DUSKSTALL_FIELDS) != 0) {
-        expect(0, "a message that reads");
+    if (e->len == 0)
         return;
-    }
-    protection_of(sender, e->message + fields[DUSKSTALL_FIELD_HEADER], fields[DUSKSTALL_FIELD_PROTECTED_LENGTH],
-                  protection + 1);
+    protection_of(sender, e->message, e->len, protection + 1);
     give(&g, DUSKSTALL_GIVEN_PROTECTION, protection, sizeof protection);
     write_message(e, outgoing, &g);
 }

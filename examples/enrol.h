@@ -18,8 +18,8 @@ size_t issue_certificate(const uint8_t *id, uint8_t *certificate);
 /* The hash of a certificate, 32 bytes. */
 void hash_of(const uint8_t *bytes, size_t len, uint8_t *hash);
 
-/* The protection by this sender of header and body, which stand side by side. */
-void protection_of(int sender, const uint8_t *header_and_body, size_t len, uint8_t *protection);
+/* The protection by this sender of a ProtectedPart in DER: what is written without protection. */
+void protection_of(int sender, const uint8_t *part, size_t len, uint8_t *protection);
 
 /* Whose key made the protection of a message: a board's number, REGISTRAR, or NOBODY. */
 int verify(const uint8_t *message, size_t len);

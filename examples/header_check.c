@@ -417,6 +417,7 @@ static unsigned write_it(struct written *w, size_t *size)
                                        sizeof w->source, w->buffer, w->buffer_len);
     *size = duskstall_write_size(written);
     expect(duskstall_write_code(written) == 0, *size != 0, "a size or a code");
+    expect(*size == 0, written > DUSKSTALL_MESSAGE_LIMIT, "a code above every size");
     memcpy(before.buffer, w->buffer, *size);
     expect(1, memcmp(&before, w, sizeof *w) == 0, "only the message's bytes change");
     return duskstall_write_code(written);
@@ -436,6 +437,49 @@ static void parts_are_read(const struct written *w, size_t size)
     }
     expect(6, fields[DUSKSTALL_FIELD_PROTECTION + 1], "the protection");
     expect(size, fields[DUSKSTALL_FIELD_HEADER] + fields[DUSKSTALL_FIELD_PROTECTED_LENGTH] + 6, "nothing behind it");
+}
+
+/* Without protection a message is the SEQUENCE of header and body, which are those of the message with protection. */
+static void protected_part_is_written(void)
+{
+    static struct written whole, plain;
+    uint64_t of_whole[DUSKSTALL_FIELDS], of_plain[DUSKSTALL_FIELDS];
+    size_t whole_size, size;
+    to_write(&whole, DUSKSTALL_PKICONF);
+    expect(0, write_it(&whole, &whole_size), "a pkiConf");
+    expect(0, duskstall_read(whole.buffer, whole_size, of_whole, DUSKSTALL_FIELDS), "with protection");
+    to_write(&plain, DUSKSTALL_PKICONF);
+    plain.given[DUSKSTALL_GIVEN_PROTECTION] = plain.given[DUSKSTALL_GIVEN_PROTECTION + 1] = 0;
+    expect(0, write_it(&plain, &size), "a pkiConf without protection");
+    expect(0, duskstall_read(plain.buffer, size, of_plain, DUSKSTALL_FIELDS), "without protection");
+    size_t len = of_whole[DUSKSTALL_FIELD_PROTECTED_LENGTH], head = of_plain[DUSKSTALL_FIELD_HEADER];
+    expect(0x30, plain.buffer[0], "a SEQUENCE");
+    expect(size, head + len, "of nothing else");
+    expect(0, (uint64_t)memcmp(plain.buffer + head, whole.buffer + of_whole[DUSKSTALL_FIELD_HEADER], len), "the same");
+}
+
+/* A reading's parts are handed on as they are, the message being the source; but for the protection, the whole [0]. */
+static void parts_are_handed_on(void)
+{
+    static struct written w, again;
+    uint64_t fields[DUSKSTALL_FIELDS];
+    size_t size, none;
+    to_write(&w, DUSKSTALL_PKICONF);
+    expect(0, write_it(&w, &size), "a pkiConf");
+    expect(0, duskstall_read(w.buffer, size, fields, DUSKSTALL_FIELDS), "to be handed on");
+    to_write(&again, DUSKSTALL_PKICONF);
+    memcpy(again.source, w.buffer, size);
+    for (size_t i = 0; i < sizeof parts / sizeof parts[0]; i++)
+        memcpy(again.given + parts[i].given, fields + parts[i].field, 2 * sizeof fields[0]);
+    uint64_t *protection = again.given + DUSKSTALL_GIVEN_PROTECTION;
+    protection[0] = fields[DUSKSTALL_FIELD_PROTECTION];
+    protection[1] = fields[DUSKSTALL_FIELD_PROTECTION + 1];
+    expect(DUSKSTALL_REFUSED_PART, write_it(&again, &none), "the whole [0]");
+    protection[0] += 4; /* two heads of two bytes */
+    protection[1] -= 4;
+    expect(0, write_it(&again, &none), "the BIT STRING's content");
+    expect(size, none, "the same size");
+    expect(0, (uint64_t)memcmp(w.buffer, again.buffer, size), "the same message");
 }
 
 /* A pkiConf with all parts: written, then with each length one too low and too high, and refused by each number. */
@@ -459,6 +503,26 @@ static void writes(void)
         to_write(&w, DUSKSTALL_PKICONF);
         w.given_len += (size_t)more;
         expect(DUSKSTALL_BAD_LENGTH, write_it(&w, &none), "numbers of another length");
+    }
+}
+
+/* A HAS_ byte is yes by 1 alone, and what it says no to has to be zero. */
+static void only_1_is_yes(void)
+{
+    static struct written w;
+    uint64_t fields[DUSKSTALL_FIELDS];
+    size_t size;
+    for (int has = 0; has < 256; has++) {
+        for (int last = 0; last < 2; last++) {
+            to_write(&w, DUSKSTALL_PKICONF);
+            w.outgoing[DUSKSTALL_OUTGOING_HAS_RECIP_NONCE] = (uint8_t)has;
+            w.outgoing[DUSKSTALL_OUTGOING_RECIP_NONCE + DUSKSTALL_NONCE_BYTES - 1] = (uint8_t)last;
+            expect(has == 1 || last == 0 ? 0 : DUSKSTALL_REFUSED_PART, write_it(&w, &size), "a recipNonce");
+            if (size == 0)
+                continue;
+            expect(0, duskstall_read(w.buffer, size, fields, DUSKSTALL_FIELDS), "written with it or without");
+            expect(has == 1 ? DUSKSTALL_NONCE_BYTES : 0, fields[DUSKSTALL_FIELD_RECIP_NONCE + 1], "its length");
+        }
     }
 }
 
@@ -556,6 +620,9 @@ int main(void)
     signed_numbers();
     cert_req_ids();
     writes();
+    protected_part_is_written();
+    parts_are_handed_on();
+    only_1_is_yes();
     longest_written();
     written_kinds();
     limits();

@@ -45,21 +45,10 @@ void hash_of(const uint8_t *bytes, size_t len, uint8_t *hash)
         put_number(checksum(0xCBF29CE484222325u + i, bytes, len), hash + 8 * i);
 }
 
-/* Over the DER SEQUENCE of header and body (RFC 9810 5.1.3), which no message holds as such: its head is put before. */
-void protection_of(int sender, const uint8_t *header_and_body, size_t len, uint8_t *protection)
+void protection_of(int sender, const uint8_t *part, size_t len, uint8_t *protection)
 {
-    uint8_t head[4] = {0x30, 0x82, (uint8_t)(len >> 8), (uint8_t)len};
-    size_t head_len = 4;
-    if (len < 128) {
-        head[1] = (uint8_t)len;
-        head_len = 2;
-    } else if (len < 256) {
-        head[1] = 0x81;
-        head[2] = (uint8_t)len;
-        head_len = 3;
-    }
     uint64_t key = 0x6B65790000000000u + (uint64_t)sender;
-    put_number(checksum(checksum(key, head, head_len), header_and_body, len), protection);
+    put_number(checksum(key, part, len), protection);
 }
 
 void give(struct given *g, int place, const uint8_t *bytes, size_t len)
@@ -110,10 +99,26 @@ struct given given_for(const uint8_t *outgoing, int sender)
     return g;
 }
 
+/* The ProtectedPart in DER (RFC 9810 5.1.3) of a message that came, and its length: header and body stand side by side
+ * there, and the head of a SEQUENCE is put before them. */
+static size_t protected_part(const uint8_t *message, const uint64_t *fields, uint8_t *part)
+{
+    size_t len = fields[DUSKSTALL_FIELD_PROTECTED_LENGTH], head = 0;
+    part[head++] = 0x30;
+    if (len >= 128)
+        part[head++] = len < 256 ? 0x81 : 0x82;
+    if (len >= 256)
+        part[head++] = (uint8_t)(len >> 8);
+    part[head++] = (uint8_t)len;
+    memcpy(part + head, message + fields[DUSKSTALL_FIELD_HEADER], len);
+    return head + len;
+}
+
 /* The sender's number is in senderKID, one byte; the protection ends its element. */
 int verify(const uint8_t *message, size_t len)
 {
     uint64_t fields[DUSKSTALL_FIELDS];
+    uint8_t part[DUSKSTALL_MESSAGE_LIMIT]; /* it is no longer than the message */
     uint8_t protection[PROTECTION_BYTES];
     if (duskstall_read(message, len, fields, DUSKSTALL_FIELDS) != 0)
         return NOBODY;
@@ -121,8 +126,7 @@ int verify(const uint8_t *message, size_t len)
     if (fields[DUSKSTALL_FIELD_SENDER_KID + 1] != 1 || protection_len < PROTECTION_BYTES)
         return NOBODY;
     int sender = message[fields[DUSKSTALL_FIELD_SENDER_KID]];
-    const uint8_t *header = message + fields[DUSKSTALL_FIELD_HEADER];
     const uint8_t *end = message + fields[DUSKSTALL_FIELD_PROTECTION] + protection_len;
-    protection_of(sender, header, fields[DUSKSTALL_FIELD_PROTECTED_LENGTH], protection);
+    protection_of(sender, part, protected_part(message, fields, part), protection);
     return memcmp(end - PROTECTION_BYTES, protection, PROTECTION_BYTES) == 0 ? sender : NOBODY;
 }

@@ -53,22 +53,21 @@
  * enrolment one call at a time; the host locks it.
  *
  * ONE ENROLMENT, of board 7, with a line that loses nothing. The host's own are draw, issue_certificate, hash_of,
- * protection_of (of header and body), verify (whose key made the protection), the number REGISTRAR, and given_for and
- * give, which put parts of a message into g.source and note their places in g.parts; examples/ has stand-ins for them,
- * and a longer version that looks at every code returned, as a host does.
+ * protection_of (of the bytes that are written without it), verify (whose key made the protection), the number
+ * REGISTRAR, and given_for and give, which put parts of a message into g.source and note their places in g.parts;
+ * examples/ has stand-ins for them, and a longer version that looks at every code returned, as a host does.
  *
  *     size_t compose(const uint8_t *outgoing, int sender, uint8_t *message)
  *     {
  *         struct given g = given_for(outgoing, sender);                    // names, and a request or certificate
  *         uint8_t protection[1 + PROTECTION_BYTES] = {0};                  // none of its bits is unused
- *         uint64_t fields[DUSKSTALL_FIELDS], written;
+ *         uint64_t written;
  *
  *         written = duskstall_write(outgoing, DUSKSTALL_OUTGOING_BYTES, 2, g.parts, DUSKSTALL_GIVEN, g.source, g.len,
  *                                   message, DUSKSTALL_MESSAGE_LIMIT);
- *         if (duskstall_read(message, duskstall_write_size(written), fields, DUSKSTALL_FIELDS) != 0)
+ *         if (duskstall_write_code(written) != 0)
  *             return 0;
- *         protection_of(sender, message + fields[DUSKSTALL_FIELD_HEADER], fields[DUSKSTALL_FIELD_PROTECTED_LENGTH],
- *                       protection + 1);
+ *         protection_of(sender, message, duskstall_write_size(written), protection + 1);
  *         give(&g, DUSKSTALL_GIVEN_PROTECTION, protection, sizeof protection);
  *         written = duskstall_write(outgoing, DUSKSTALL_OUTGOING_BYTES, 2, g.parts, DUSKSTALL_GIVEN, g.source, g.len,
  *                                   message, DUSKSTALL_MESSAGE_LIMIT);
@@ -492,7 +491,8 @@ uint64_t duskstall_check(const uint8_t *bytes, size_t bytes_len);
 /*
  * The places of the numbers that duskstall_write is given. A part is two numbers: its start in the source at the place
  * named here and its length at the next; 0 and 0 if it is absent. No part starts at the source's first byte (in a
- * reading, too, what starts at 0 is absent). "Content": without tag and length.
+ * reading, too, what starts at 0 is absent). "Content": without tag and length. Where the source is a message that was
+ * read, the two numbers of a field can be handed on for the part of the same name, but for PROTECTION.
  */
 enum duskstall_given {
     DUSKSTALL_GIVEN_SENDER = 0,         /* a GeneralName, with tag and length */
@@ -503,7 +503,9 @@ enum duskstall_given {
     DUSKSTALL_GIVEN_RECIP_KID = 10,     /* content */
     DUSKSTALL_GIVEN_FREE_TEXT = 12,     /* its SEQUENCE */
     DUSKSTALL_GIVEN_GENERAL_INFO = 14,  /* its SEQUENCE */
-    DUSKSTALL_GIVEN_PROTECTION = 16,    /* content of the BIT STRING: how many bits are unused, and the bits */
+    /* content of the BIT STRING: how many bits are unused, and the bits. Not what DUSKSTALL_FIELD_PROTECTION names: the
+     * whole [0], with the BIT STRING inside, does not fit here */
+    DUSKSTALL_GIVEN_PROTECTION = 16,
     /* There exactly in these messages: */
     DUSKSTALL_GIVEN_REQUEST = 18,    /* ir, cr, kur: the CertReqMsg; p10cr: any element; with tag and length */
     DUSKSTALL_GIVEN_CERTIFICATE = 20 /* ip, cp, kup of status 0: a SEQUENCE, with tag and length */
@@ -515,26 +517,28 @@ enum duskstall_given {
  * the message gives back what it was written from, each part at its place.
  *
  *   outgoing, outgoing_len   DUSKSTALL_OUTGOING_BYTES: as an answer holds it. A HAS_ byte is yes by 1 and no by every
- *                            other number
+ *                            other number; a value whose byte says no has to be unset: zero
  *   version                  pvno, 32 bits of two's complement
  *   given, given_len         DUSKSTALL_GIVEN numbers: where the parts lie
  *   source, source_len       any bytes, any number of them, which the parts lie in
- *   buffer, buffer_len       written: the message's bytes, and no others
+ *   buffer, buffer_len       written: the message's bytes, and no others. It overlaps neither source nor given nor
+ *                            outgoing: an answer is not written over the message that it takes parts from
  *
  * Returns the size of the message, which is at the buffer's beginning. Or, with nothing changed, a number times 2^32:
  * DUSKSTALL_BAD_LENGTH where outgoing or given is of another length; else DUSKSTALL_REFUSED_OVER_LIMIT (34),
  * DUSKSTALL_REFUSED_BUFFER (35) or DUSKSTALL_REFUSED_PART (36), the lowest that applies. duskstall_write_size and
- * duskstall_write_code tell them apart.
+ * duskstall_write_code tell them apart. Taken for a length, such a number is above every size, at least 34 * 2^32; cut
+ * to 32 bits it is 0.
  *
  * 36: a part is not one element that fits the message there, by its own rule and with the depth that is left; it starts
  * at the source's first byte, or reaches outside; it is missing, or given where the message has none; or outgoing is of
- * no kind that is sent, lacks something, or has what its kind has not (unset bytes are zero). What the calls of both
- * ends gave to be sent fits as it is. 34 and 35 are told by the message's size, whether or not the parts fit: of a part
- * that reaches outside, as much counts as the source has.
+ * no kind that is sent, lacks something, or has what its kind has not (unset bytes are zero). What an answer hands out
+ * fits: 36 is then for the given parts. 34 and 35 are told by the message's size, whether or not the parts fit: of a
+ * part that reaches outside, as much counts as the source has.
  *
- * To protect a message: write it with PROTECTION_ALG and without PROTECTION, and read it, which gives HEADER, BODY and
- * PROTECTED_LENGTH; make the protection of the SEQUENCE of both, as it is verified; write again with PROTECTION. Header
- * and body come out the same.
+ * To protect a message: write it with PROTECTION_ALG and without PROTECTION. What is written then is RFC 9810 5.1.3's
+ * ProtectedPart in DER, the SEQUENCE of header and body: make the protection of these bytes as they are, and write
+ * again with the same and PROTECTION. Header and body come out the same, so that it is verified by the same bytes.
  */
 uint64_t duskstall_write(const uint8_t *outgoing, size_t outgoing_len, uint32_t version, const uint64_t *given,
                          size_t given_len, const uint8_t *source, size_t source_len, uint8_t *buffer,
