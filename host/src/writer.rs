@@ -27,7 +27,8 @@ pub struct Given<'a> {
     /// SEQUENCE of InfoTypeAndValue: element.
     pub general_info: Option<&'a [u8]>,
     /// Content of the BIT STRING: a byte that says how many bits of the last are
-    /// unused, and the bits.
+    /// unused, and the bits. Not what [`Reading::protection`](crate::Reading::protection)
+    /// names, which is the whole `[0]` around it.
     pub protection: Option<&'a [u8]>,
     /// In an ir, cr or kur the one CertReqMsg, in a p10cr the
     /// CertificationRequest: element.
