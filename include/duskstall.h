@@ -516,8 +516,9 @@ enum duskstall_given {
  * for it. A certConf's status 0 is left out (RFC 9810 5.3.18: that says acceptance); no message has extraCerts. Reading
  * the message gives back what it was written from, each part at its place.
  *
- *   outgoing, outgoing_len   DUSKSTALL_OUTGOING_BYTES: as an answer holds it. A HAS_ byte is yes by 1 and no by every
- *                            other number; a value whose byte says no has to be unset: zero
+ *   outgoing, outgoing_len   DUSKSTALL_OUTGOING_BYTES: as an answer holds it whose SENDS is 1; where it is 0 nothing is
+ *                            to be sent, whatever the bytes say. A HAS_ byte is yes by 1 and no by every other number;
+ *                            a value whose byte says no has to be unset: zero, FAILURE DUSKSTALL_NO_BIT
  *   version                  pvno, 32 bits of two's complement
  *   given, given_len         DUSKSTALL_GIVEN numbers: where the parts lie
  *   source, source_len       any bytes, any number of them, which the parts lie in
@@ -530,15 +531,19 @@ enum duskstall_given {
  * duskstall_write_code tell them apart. Taken for a length, such a number is above every size, at least 34 * 2^32; cut
  * to 32 bits it is 0.
  *
- * 36: a part is not one element that fits the message there, by its own rule and with the depth that is left; it starts
- * at the source's first byte, or reaches outside; it is missing, or given where the message has none; or outgoing is of
- * no kind that is sent, lacks something, or has what its kind has not (unset bytes are zero). What an answer hands out
- * fits: 36 is then for the given parts. 34 and 35 are told by the message's size, whether or not the parts fit: of a
- * part that reaches outside, as much counts as the source has.
+ * 36: a part with tag and length is not one element that fits the message there, by its own rule and with the depth that
+ * is left, or PROTECTION is no BIT STRING's content; a part starts at the source's first byte, or reaches outside; it is
+ * missing, or given where the message has none; or outgoing is of no kind that is sent, lacks something, or has what its
+ * kind has not. What an answer with SENDS 1 holds fits, after any calls on a table and enrolments lent as they were
+ * left: 36 is then for the given parts. Not looked at: which version, which bytes MESSAGE_TIME and the key identifiers
+ * have (none is a content, too: a part of length 0 that does not start at 0 is there), which number, status and bit, and
+ * whether PROTECTION and PROTECTION_ALG go together. 34 and 35 are told by the message's size, whether or not the parts
+ * fit: of a part that reaches outside, as much counts as the source has.
  *
  * To protect a message: write it with PROTECTION_ALG and without PROTECTION. What is written then is RFC 9810 5.1.3's
  * ProtectedPart in DER, the SEQUENCE of header and body: make the protection of these bytes as they are, and write
- * again with the same and PROTECTION. Header and body come out the same, so that it is verified by the same bytes.
+ * again with the same and PROTECTION. Header and body come out the same, so that it is verified by the same bytes. If
+ * the second call is refused, the buffer still holds the message without protection: look at what it returns.
  */
 uint64_t duskstall_write(const uint8_t *outgoing, size_t outgoing_len, uint32_t version, const uint64_t *given,
                          size_t given_len, const uint8_t *source, size_t source_len, uint8_t *buffer,

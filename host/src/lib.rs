@@ -4,8 +4,9 @@
 //!
 //! [`Registrar`] and [`EndEntity`] run the two ends of an enrolment; [`write()`] and
 //! [`write_protected`] write the messages that they give to be sent, and `compiled`
-//! reads a message. `independent` and `model` are written from the papers alone;
-//! `testing` makes messages for the tests.
+//! reads a message. `independent` and `model` are written from the papers, and
+//! where these are silent from `docs/DECISIONS.md`; `testing` makes messages for the
+//! tests.
 //!
 //! One enrolment, with a line that loses nothing:
 //!

@@ -205,7 +205,7 @@ bytes-written out given src buf v n out-bytes src-bytes v-low is low =
 
 -- GIVEN IN PLACE
 pub given-in-place : AllGivenInPlace
-given-in-place v s = record {
+given-in-place v s src = record {
   version = refl;
   sender = refl;
   recipient = refl;

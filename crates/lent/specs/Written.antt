@@ -2,11 +2,14 @@
 use Prim.Native.Nat.{ℕ, _+_, _*_, _<_, _≤_, _^_}
 use mathlib.Core.List.{List, _++_}
 use mathlib.Core.Bool.{true}
+use mathlib.Core.Option.{Option}
 use mathlib.Core.Path.{_≡_}
 use mathlib.Core.Logic.{_≢_}
 use lib.ListN.{length, take, drop, getD}
 use Rattle.grammar.specs.declared.Span.{Span}
 use Rattle.message.specs.Read.{maxMessage, readingOf}
+use Rattle.protocol.specs.Bytes.{bytesOf}
+use Rattle.protocol.specs.Message.{optionalPart}
 use Rattle.protocol.specs.Run.{End}
 use Rattle.packed.specs.Bytes.{AllBytes}
 use Rattle.packed.specs.Outgoing.{outgoingBytes, outgoingOf}
@@ -16,7 +19,6 @@ use Rattle.encoding.specs.Fits.{orderFits}
 use Rattle.encoding.specs.Message.{encode}
 use Rattle.encoding.specs.ReadBack.{ReadsBack}
 use Rattle.encoding.specs.WriteRules.{RefusalRules}
-use Rattle.given.specs.declared.GivenSpans.{GivenSpans}
 use Rattle.given.specs.Numbers.{spansOf}
 use Rattle.given.specs.Spans.{givenOf, spansInside}
 use Rattle.duskstall.specs.Write.{writeNumber, writeBuffer}
@@ -29,26 +31,30 @@ use Rattle.lent.specs.Header.{Sent, IssuedBytes}
 abbrev pub spanIn : List ℕ → (place : ℕ) → Span
 spanIn s k = record { start = record { 0 = getD s k 0 }; len = getD s (k + 1) 0 }
 
-pub record GivenInPlace (v : ℕ) (s : List ℕ) (g : GivenSpans) : Type 0 where
-  pub version : g .version ≡ v
-  pub sender : g .sender ≡ spanIn s givenSenderPlace
-  pub recipient : g .recipient ≡ spanIn s givenRecipientPlace
-  pub messageTime : g .«message_time» ≡ spanIn s givenMessageTimePlace
-  pub protectionAlg : g .«protection_alg» ≡ spanIn s givenProtectionAlgPlace
-  pub senderKid : g .«sender_kid» ≡ spanIn s givenSenderKidPlace
-  pub recipKid : g .«recip_kid» ≡ spanIn s givenRecipKidPlace
-  pub freeText : g .«free_text» ≡ spanIn s givenFreeTextPlace
-  pub generalInfo : g .«general_info» ≡ spanIn s givenGeneralInfoPlace
-  pub protection : g .protection ≡ spanIn s givenProtectionPlace
-  pub request : g .request ≡ spanIn s givenRequestPlace
-  pub certificate : g .certificate ≡ spanIn s givenCertificatePlace
-
-abbrev pub AllGivenInPlace : Type 0
-AllGivenInPlace = (v : ℕ) (s : List ℕ) → GivenInPlace v s (spansOf v s)
+-- the part that they name in the source, where they are not 0 and 0
+abbrev pub partIn : (s src : List ℕ) → (place : ℕ) → Option (List ℕ)
+partIn s src k = optionalPart src (spanIn s k)
 
 -- what is handed in, by its bytes
 abbrev pub givenIn : (version : ℕ) → (given source : List ℕ) → Given
 givenIn v given src = givenOf src (spansOf v given)
+
+pub record GivenInPlace (v : ℕ) (s src : List ℕ) (g : Given) : Type 0 where
+  pub version : g .version ≡ v
+  pub sender : g .sender ≡ bytesOf (partIn s src givenSenderPlace)
+  pub recipient : g .recipient ≡ bytesOf (partIn s src givenRecipientPlace)
+  pub messageTime : g .messageTime ≡ partIn s src givenMessageTimePlace
+  pub protectionAlg : g .protectionAlg ≡ partIn s src givenProtectionAlgPlace
+  pub senderKid : g .senderKid ≡ partIn s src givenSenderKidPlace
+  pub recipKid : g .recipKid ≡ partIn s src givenRecipKidPlace
+  pub freeText : g .freeText ≡ partIn s src givenFreeTextPlace
+  pub generalInfo : g .generalInfo ≡ partIn s src givenGeneralInfoPlace
+  pub protection : g .protection ≡ partIn s src givenProtectionPlace
+  pub request : g .request ≡ partIn s src givenRequestPlace
+  pub certificate : g .certificate ≡ partIn s src givenCertificatePlace
+
+abbrev pub AllGivenInPlace : Type 0
+AllGivenInPlace = (v : ℕ) (s src : List ℕ) → GivenInPlace v s src (givenIn v s src)
 
 -- ## What the call does, whatever it is handed
 
