@@ -34,34 +34,28 @@ impl Call {
 
     /// The number that the library gives.
     pub fn by_library(&self, buffer: &mut [u8]) -> u64 {
-        let Call {
-            outgoing,
-            version,
-            given,
-            source,
-        } = self;
-        library::write(outgoing, *version, given, source, buffer)
+        library::write(
+            &self.outgoing,
+            self.version,
+            &self.given,
+            &self.source,
+            buffer,
+        )
     }
 
     pub fn independently(&self, buffer: &mut [u8]) -> Result<usize, Unwritten> {
-        let Call {
-            outgoing,
-            version,
-            given,
-            source,
-        } = self;
-        writer::write(outgoing, *version, given, source, buffer)
+        writer::write(
+            &self.outgoing,
+            self.version,
+            &self.given,
+            &self.source,
+            buffer,
+        )
     }
 
     /// The size that the message would have, and what does not fit.
     pub fn size_and_misfit(&self) -> (usize, Option<Misfit>) {
-        let Call {
-            outgoing,
-            version,
-            given,
-            source,
-        } = self;
-        writer::size_and_misfit(outgoing, *version, given, source)
+        writer::size_and_misfit(&self.outgoing, self.version, &self.given, &self.source)
     }
 
     /// The bytes of a part, which lies in the source; none if it is absent.

@@ -8,15 +8,9 @@ use duskstall_host::testing::writing::{order, Call, KINDS};
 use duskstall_host::{CertHash, Nonce, Outgoing, TransactionId, MESSAGE_LIMIT};
 
 /// What the caller may leave out.
-const OPTIONAL: [Part; 7] = [
-    Part::MessageTime,
-    Part::ProtectionAlg,
-    Part::SenderKid,
-    Part::RecipKid,
-    Part::FreeText,
-    Part::GeneralInfo,
-    Part::Protection,
-];
+fn optional() -> &'static [Part] {
+    &PARTS[Part::MessageTime as usize..=Part::Protection as usize]
+}
 
 pub fn draw(source: &Source, random: &mut Random) -> Call {
     let outgoing = sound_order(random);
@@ -97,7 +91,7 @@ fn add_parts(call: &mut Call, outgoing: &Outgoing, source: &Source, random: &mut
     };
     add(Part::Sender, random);
     add(Part::Recipient, random);
-    for part in OPTIONAL {
+    for &part in optional() {
         if random.once_in(2) {
             add(part, random);
         }
