@@ -173,7 +173,7 @@ static void stolen_confirmation(struct ends *e, const uint8_t *outgoing)
     expect_states(e, DUSKSTALL_TRANSACTION_GRANTED, DUSKSTALL_ENROLMENT_CONFIRMING);
 }
 
-/* A host that does not write the certReqId it is given: in an enrolment by p10cr it is -1. */
+/* A host that puts another certReqId into what it is given to send: in an enrolment by p10cr it is -1. */
 static void other_cert_req_id(struct ends *e, const uint8_t *outgoing)
 {
     uint8_t changed[DUSKSTALL_OUTGOING_BYTES];

@@ -1,5 +1,5 @@
-/* The stack that each function of the library uses on the messages of one enrolment: a thread runs the call on a painted stack. The parts
- * nest as deep as they may, and the message has the longest certificate that fits. */
+/* The stack that each function of the library uses on the messages of one enrolment: a thread runs the call on a
+ * painted stack. The names nest as deep as they may, and the certificate has 16,000 bytes. */
 #define _GNU_SOURCE
 #include "duskstall.h"
 
@@ -24,26 +24,29 @@ static void check(void) { code = duskstall_check(message, len); }
 static void reading(void) { code = duskstall_read(message, len, fields, DUSKSTALL_FIELDS); }
 static void start(void)
 {
-    code = duskstall_end_entity_start(enrolment, sizeof enrolment, DUSKSTALL_IR, id, sizeof id, nonce, sizeof nonce, asked, sizeof asked);
+    code = duskstall_end_entity_start(enrolment, sizeof enrolment, DUSKSTALL_IR, id, sizeof id, nonce, sizeof nonce,
+                                      asked, sizeof asked);
 }
 static void registrar(void)
 {
-    code = duskstall_registrar_message(table, sizeof table, message, len, DUSKSTALL_VERDICT_GOOD, BOARD, nonce, sizeof nonce, granted,
-                                       sizeof granted);
+    code = duskstall_registrar_message(table, sizeof table, message, len, DUSKSTALL_VERDICT_GOOD, BOARD, nonce,
+                                       sizeof nonce, granted, sizeof granted);
 }
 static void issue(void)
 {
-    code = duskstall_registrar_issue(table, sizeof table, id, sizeof id, nonce, sizeof nonce, hash, sizeof hash, granted, sizeof granted);
+    code = duskstall_registrar_issue(table, sizeof table, id, sizeof id, nonce, sizeof nonce, hash, sizeof hash,
+                                     granted, sizeof granted);
 }
 static void end_entity(void)
 {
-    code = duskstall_end_entity_message(enrolment, sizeof enrolment, message, len, DUSKSTALL_VERDICT_GOOD, DUSKSTALL_DECISION_ACCEPT, hash,
-                                        sizeof hash, nonce, sizeof nonce, asked, sizeof asked);
+    code = duskstall_end_entity_message(enrolment, sizeof enrolment, message, len, DUSKSTALL_VERDICT_GOOD,
+                                        DUSKSTALL_DECISION_ACCEPT, hash, sizeof hash, nonce, sizeof nonce, asked,
+                                        sizeof asked);
 }
 static void writing(const uint8_t *outgoing)
 {
-    uint64_t written = duskstall_write(outgoing, DUSKSTALL_OUTGOING_BYTES, 2, given, DUSKSTALL_GIVEN, source, sizeof source, message,
-                                       sizeof message);
+    uint64_t written = duskstall_write(outgoing, DUSKSTALL_OUTGOING_BYTES, 2, given, DUSKSTALL_GIVEN, source,
+                                       sizeof source, message, sizeof message);
     code = duskstall_write_code(written);
     len = duskstall_write_size(written);
 }
@@ -65,8 +68,8 @@ static size_t touched(void (*call)(void))
     size_t kept = 0;
     assert(stack != NULL);
     memset(stack, PAINT, STACK);
-    if (pthread_attr_init(&attr) || pthread_attr_setstack(&attr, stack, STACK) || pthread_create(&thread, &attr, run, &call) ||
-        pthread_join(thread, NULL))
+    if (pthread_attr_init(&attr) || pthread_attr_setstack(&attr, stack, STACK) ||
+        pthread_create(&thread, &attr, run, &call) || pthread_join(thread, NULL))
         exit(1);
     while (stack[kept] == PAINT)
         kept++;

@@ -178,7 +178,7 @@ enum duskstall_code {
     DUSKSTALL_REFUSED = 2,      /* the table or the enrolment is as it was; the answer has the number of the refusal */
     /* The call was not made, and no array has changed. The lowest that applies is returned. */
     DUSKSTALL_NO_STATE = 251,   /* the table or the enrolment is none: its length, or a state that is above 6 */
-    DUSKSTALL_BAD_LENGTH = 252, /* an id, a nonce, a hash, or what duskstall_write is given, of another length */
+    DUSKSTALL_BAD_LENGTH = 252, /* an id, a nonce or a hash of another length; see duskstall_write_code, too */
     DUSKSTALL_NO_ROOM = 253,    /* the answer is too short */
     DUSKSTALL_FEW_FIELDS = 255  /* duskstall_read only: fewer than DUSKSTALL_FIELDS */
 };
@@ -513,17 +513,21 @@ enum duskstall_given {
 
 /*
  * Writes the message that is to be sent: header, body and, if it is given, protection, in the only DER that there is
- * for it. A certConf's status 0 is left out (RFC 9810 5.3.18: that says acceptance); no message has extraCerts. Reading
- * the message gives back what it was written from, each part at its place.
+ * for it. Reading the message gives back what it was written from, each part at its place, but that duskstall_read
+ * does not tell the failure bit, and names the whole [0] of the protection. A certConf's status 0 is left out (RFC
+ * 9810 5.3.18: that says acceptance) and reads as no status. No message has extraCerts: a host that adds them writes
+ * [1] after the protection, and the length of the outermost SEQUENCE anew.
  *
  *   outgoing, outgoing_len   DUSKSTALL_OUTGOING_BYTES: as an answer holds it whose SENDS is 1; where it is 0 nothing is
- *                            to be sent, whatever the bytes say. A HAS_ byte is yes by 1 and no by every other number;
- *                            a value whose byte says no has to be unset: zero, FAILURE DUSKSTALL_NO_BIT
+ *                            to be sent, whatever the bytes say. A HAS_ byte is yes by 1 and no by every other number.
+ *                            A value whose byte says no, and what its kind has not, has to be unset: zero, FAILURE
+ *                            DUSKSTALL_NO_BIT
  *   version                  pvno, 32 bits of two's complement
  *   given, given_len         DUSKSTALL_GIVEN numbers: where the parts lie
  *   source, source_len       any bytes, any number of them, which the parts lie in
- *   buffer, buffer_len       written: the message's bytes, and no others. It overlaps neither source nor given nor
- *                            outgoing: an answer is not written over the message that it takes parts from
+ *   buffer, buffer_len       written: the message's bytes, and no others. DUSKSTALL_MESSAGE_LIMIT bytes are always
+ *                            enough. It overlaps neither source nor given nor outgoing: an answer is not written over
+ *                            the message that it takes parts from
  *
  * Returns the size of the message, which is at the buffer's beginning. Or, with nothing changed, a number times 2^32:
  * DUSKSTALL_BAD_LENGTH where outgoing or given is of another length; else DUSKSTALL_REFUSED_OVER_LIMIT (34),
@@ -531,14 +535,18 @@ enum duskstall_given {
  * duskstall_write_code tell them apart. Taken for a length, such a number is above every size, at least 34 * 2^32; cut
  * to 32 bits it is 0.
  *
- * 36: a part with tag and length is not one element that fits the message there, by its own rule and with the depth that
- * is left, or PROTECTION is no BIT STRING's content; a part starts at the source's first byte, or reaches outside; it is
- * missing, or given where the message has none; or outgoing is of no kind that is sent, lacks something, or has what its
- * kind has not. What an answer with SENDS 1 holds fits, after any calls on a table and enrolments lent as they were
- * left: 36 is then for the given parts. Not looked at: which version, which bytes MESSAGE_TIME and the key identifiers
- * have (none is a content, too: a part of length 0 that does not start at 0 is there), which number, status and bit, and
- * whether PROTECTION and PROTECTION_ALG go together. 34 and 35 are told by the message's size, whether or not the parts
- * fit: of a part that reaches outside, as much counts as the source has.
+ * 36: a part with tag and length is not one element that fits the message there, by its own rule and with the depth
+ * that is left, or PROTECTION is no BIT STRING's content; a part starts at the source's first byte, or reaches outside;
+ * it is missing, or given where the message has none; or outgoing is of no kind that is sent, has no status or number
+ * where its kind has one, or has what its kind has not. What an answer with SENDS 1 holds fits, after any calls on a
+ * table and enrolments lent as they were left: 36 is then for the given parts. Not looked at: which version, which
+ * bytes MESSAGE_TIME and the key identifiers have (none is a content, too: a part of length 0 that does not start at 0
+ * is there), which number and bit, which status (but that 0 in an ip, cp or kup asks for a certificate), and whether
+ * PROTECTION and PROTECTION_ALG go together.
+ *
+ * 34 and 35 are told by the message's size, whether or not the parts fit: of a part that reaches outside, as much
+ * counts as the source has; one at 0 does not count; a certificate counts in an ip, cp and kup of any status; a kind
+ * that is not sent counts as a pkiConf.
  *
  * To protect a message: write it with PROTECTION_ALG and without PROTECTION. What is written then is RFC 9810 5.1.3's
  * ProtectedPart in DER, the SEQUENCE of header and body: make the protection of these bytes as they are, and write
@@ -631,7 +639,7 @@ uint64_t duskstall_registrar_message(uint8_t *table, size_t table_len, const uin
 
 /*
  * The host grants the request and has issued a certificate with this hash: Asked becomes Granted. The response (ip, cp
- * or kup) with status 0 is to be sent; the host puts the certificate in. Refused by 30, 31.
+ * or kup) with status 0 is to be sent; the host gives the certificate to duskstall_write. Refused by 30, 31.
  */
 uint64_t duskstall_registrar_issue(uint8_t *table, size_t table_len, const uint8_t *id, size_t id_len,
                                    const uint8_t *nonce, size_t nonce_len, const uint8_t *hash, size_t hash_len,

@@ -128,7 +128,8 @@ fn sent(sends: u8, bytes: &[u8]) -> Option<Option<Outgoing>> {
     }
 }
 
-fn outgoing(bytes: &[u8; OUTGOING_BYTES]) -> Option<Outgoing> {
+/// The message that these bytes of an answer say; none if a flag is none.
+pub fn outgoing(bytes: &[u8; OUTGOING_BYTES]) -> Option<Outgoing> {
     let [kind, rest @ ..] = bytes;
     let (id, rest) = rest.split_first_chunk()?;
     let (sender_nonce, rest) = rest.split_first_chunk()?;

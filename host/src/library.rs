@@ -60,7 +60,7 @@ pub fn check(bytes: &[u8]) -> u64 {
 }
 
 /// Writes the message that an outgoing one says, around the parts that lie in
-/// the source: a number of [`GIVEN`] and the next are a part's start and length.
+/// the source: of the [`GIVEN`] numbers two each are a part's start and length.
 /// Gives the size of the message, now the buffer's first bytes; or a refusal's
 /// number, or [`BAD_LENGTH`], times 2^32, with nothing changed.
 pub fn write(

@@ -1,7 +1,9 @@
 //! Messages written by the compiled library, and their protection.
 
+use crate::answers;
 use crate::ends::Outgoing;
 use crate::library::{self, GIVEN};
+use crate::limits::MESSAGE_LIMIT;
 use crate::refusal::Refusal;
 
 /// What the host gives for a message beside what is to be sent: pvno, and parts
@@ -89,7 +91,9 @@ impl<'a> Given<'a> {
 }
 
 /// Writes a message, and gives its size: it is the buffer's first bytes, and the
-/// others are as before. Refused by 34, 35 and 36, with the buffer as before.
+/// others are as before. Refused by 34, 35 and 36, with the buffer as before; by 36
+/// also where the library's bytes have no way to say the order, as of a certConf
+/// without a hash. No message is longer than [`MESSAGE_LIMIT`](crate::MESSAGE_LIMIT).
 /// Without protection it is what protection is made of, see [`write_protected`].
 ///
 /// ```
@@ -111,21 +115,28 @@ impl<'a> Given<'a> {
 /// # Ok::<(), duskstall_host::Refusal>(())
 /// ```
 pub fn write(outgoing: &Outgoing, given: &Given, buffer: &mut [u8]) -> Result<usize, Refusal> {
+    let order = outgoing.to_bytes();
+    if answers::outgoing(&order) != Some(*outgoing) {
+        return Err(refused(36));
+    }
     let (source, places) = given.laid_out();
     let version = given.version as u32;
-    let answer = library::write(&outgoing.to_bytes(), version, &places, &source, buffer);
-    written(answer)
+    written(library::write(&order, version, &places, &source, buffer))
+}
+
+fn refused(number: u8) -> Refusal {
+    Refusal {
+        number,
+        bit: None,
+        fault: None,
+    }
 }
 
 /// Size and refusal of the library's number.
 fn written(answer: u64) -> Result<usize, Refusal> {
     match (answer >> 32, answer as u32) {
         (0, size) => usize::try_from(size).map_err(|_| Refusal::OUTSIDE_CONTRACT),
-        (number @ 34..=36, 0) => Err(Refusal {
-            number: number as u8,
-            bit: None,
-            fault: None,
-        }),
+        (number @ 34..=36, 0) => Err(refused(number as u8)),
         _ => Err(Refusal::OUTSIDE_CONTRACT),
     }
 }
@@ -134,8 +145,8 @@ fn written(answer: u64) -> Result<usize, Refusal> {
 /// written without protection, which is the ProtectedPart in DER (RFC 9810 5.1.3),
 /// the SEQUENCE of header and body. It gives the protection in whole bytes. The
 /// algorithm's name is in what is given; a protection there is replaced. Gives the
-/// size, or a refusal as [`write()`] does, after which the buffer may hold the
-/// message without protection.
+/// size, or a refusal as [`write()`] does, with the buffer as before: it never holds
+/// the message without protection.
 ///
 /// ```
 /// use duskstall_host::{compiled, write_protected, EndEntity, FreshNonce, Given, TransactionId};
@@ -166,8 +177,10 @@ pub fn write_protected(
         protection: None,
         ..*given
     };
-    let size = write(outgoing, &plain, buffer)?;
-    let bits = protect(&buffer[..size]);
+    // As much room, so that the same is refused.
+    let mut part = vec![0; buffer.len().min(MESSAGE_LIMIT)];
+    let size = write(outgoing, &plain, &mut part)?;
+    let bits = protect(&part[..size]);
     let protection = [&[0], &bits[..]].concat();
     let protected = Given {
         protection: Some(&protection),
@@ -179,6 +192,36 @@ pub fn write_protected(
 #[cfg(test)]
 mod tests {
     use super::*;
+    use crate::testing::writing::{order, Elements};
+    use crate::CertHash;
+
+    /// The bytes have no flag for a hash, and 255 for no bit.
+    #[test]
+    fn orders_that_bytes_cannot_say() {
+        let elements = Elements::new();
+        let number = |outgoing: Outgoing| {
+            let written = write(&outgoing, &elements.all(&outgoing), &mut [0; 512]);
+            written.map_err(|refusal| refusal.number)
+        };
+        for kind in [19, 23, 24] {
+            assert!(number(order(kind)).is_ok());
+        }
+        let unhashed = Outgoing {
+            hash: None,
+            ..order(24)
+        };
+        let hashed = Outgoing {
+            hash: Some(CertHash([0; 32])),
+            ..order(19)
+        };
+        let no_such_bit = Outgoing {
+            failure: Some(255),
+            ..order(23)
+        };
+        for outgoing in [unhashed, hashed, no_such_bit] {
+            assert_eq!(number(outgoing), Err(36));
+        }
+    }
 
     #[test]
     fn size_and_refusal_of_a_number() {

@@ -7,11 +7,11 @@ mod tree;
 
 use duskstall_host::testing::papers::with_comma;
 use duskstall_host::{MESSAGE_LIMIT, SLOTS};
-use std::collections::BTreeSet;
+use std::collections::{BTreeMap, BTreeSet};
 use std::path::PathBuf;
 use tree::{
-    all_functions, all_labels, crate_of, edits, files, labels, names_of_the_tree, quoted, root,
-    text, turned, words, Function,
+    all_functions, all_labels, crate_of, edits, files, labels, names_of_the_tree, quoted,
+    replacements, root, text, turned, words, Function,
 };
 
 /// The names in a document's backticks that are not in the tree, and how many were looked at.
@@ -165,6 +165,21 @@ fn edits_of_one_file_stand_apart() {
     }
     println!("pairs of functions turned in one file: {together}");
     assert!(together > 100, "the edits were not read");
+}
+
+/// Two labels are two wrong answers.
+#[test]
+fn no_edit_stands_twice() {
+    let mut seen = BTreeMap::new();
+    for edit in edits() {
+        let replacements = replacements(&edit);
+        assert_eq!(replacements.len(), labels(&edit).len(), "{edit:?}");
+        for (label, replaced) in labels(&edit).into_iter().zip(replacements) {
+            assert!(replaced.contains("\nold: ") && replaced.contains("\nnew:"));
+            let same = seen.insert((crate_of(&edit), replaced), label.clone());
+            assert_eq!(same, None, "{label} is the same edit");
+        }
+    }
 }
 
 #[test]

@@ -173,6 +173,9 @@ fn openssl_is_refused_at_our_registrar() {
     });
 }
 
+/// What OpenSSL's client says of an error message with status 2 and bit 2.
+const READ_OUR_ERROR: &str = "received error:PKIStatus: rejection; PKIFailureInfo: badRequest";
+
 /// Whatever certReqId the cp to a p10cr has, OpenSSL's client confirms with it,
 /// and our registrar refuses that; in another response it wants 0 itself.
 #[test]
@@ -180,9 +183,9 @@ fn response_with_wrong_number_enrols_nobody() {
     with_openssl(|openssl, kind| {
         let host = registrar::run(openssl, kind.command, SECRET, Policy::Issues(wrong_number));
         assert_eq!(sent(&host.sent)[0], (kind.response, Some(!kind.number)));
-        let (confirmed, said): (&[_], &[_]) = match kind.request {
-            P10CR => (&[(24, Some(0))], &[0, 16]),
-            _ => (&[], &[0]),
+        let (confirmed, said, complaint): (&[_], &[_], _) = match kind.request {
+            P10CR => (&[(24, Some(0))], &[0, 16], READ_OUR_ERROR),
+            _ => (&[], &[0], "expected certReqId = 0"),
         };
         assert_eq!(came(&host.came)[1..], *confirmed);
         assert_eq!(host.said, said);
@@ -190,6 +193,7 @@ fn response_with_wrong_number_enrols_nobody() {
         holds(&host, kind, TransactionState::Granted);
         let Kind { name, number, .. } = kind;
         let (wrong, words) = (!number, openssl.complaint());
+        assert!(words.contains(complaint), "{words}");
         println!("openssl's {name}, answered with {wrong}: {said:?} here, there {words}");
     });
 }

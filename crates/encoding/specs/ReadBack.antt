@@ -84,7 +84,8 @@ ifThere (some v) x = some x
 abbrev pub hasEntry : (kind : ℕ) → Bool
 hasEntry k = eqb k 0 || eqb k 2 || eqb k 7 || isResponse k || eqb k certConf
 
--- each at its place, and there exactly if it is given; and nothing that is neither given nor in the order
+-- each at its place, and there exactly if it is given; one entry, no caPubs, hashAlg and extraCerts. What the reader has no place for
+-- (statusString, failInfo, errorCode and errorDetails, privateKey and rspInfo) is not said here: `messageParts` has none of it but failInfo
 pub record GivenBack (bytes : List ℕ) (g : Given) (o : Outgoing) (m : Message) : Type 0 where
   pub version : m .header .version ≡ g .version
   pub sender : HasPart bytes (m .header .sender) (g .sender)

@@ -19,7 +19,7 @@ use Rattle.encoding.specs.Fits.{orderFits}
 use Rattle.encoding.specs.Message.{encode}
 use Rattle.encoding.specs.ReadBack.{ReadsBack}
 use Rattle.encoding.specs.WriteRules.{RefusalRules}
-use Rattle.given.specs.Numbers.{spansOf}
+use Rattle.given.specs.declared.GivenSpans.{GivenSpans}
 use Rattle.given.specs.Spans.{givenOf, spansInside}
 use Rattle.duskstall.specs.Write.{writeNumber, writeBuffer}
 use Rattle.lent.specs.HeaderPlaces.{givenSenderPlace, givenRecipientPlace, givenMessageTimePlace, givenProtectionAlgPlace, givenSenderKidPlace, givenRecipKidPlace, givenFreeTextPlace, givenGeneralInfoPlace, givenProtectionPlace, givenRequestPlace, givenCertificatePlace, givenEnd}
@@ -31,13 +31,31 @@ use Rattle.lent.specs.Header.{Sent, IssuedBytes}
 abbrev pub spanIn : List ℕ → (place : ℕ) → Span
 spanIn s k = record { start = record { 0 = getD s k 0 }; len = getD s (k + 1) 0 }
 
+-- all eleven, and pvno
+abbrev pub spansIn : (version : ℕ) → List ℕ → GivenSpans
+spansIn v s =
+    record {
+      version = v;
+      sender = spanIn s givenSenderPlace;
+      recipient = spanIn s givenRecipientPlace;
+      «message_time» = spanIn s givenMessageTimePlace;
+      «protection_alg» = spanIn s givenProtectionAlgPlace;
+      «sender_kid» = spanIn s givenSenderKidPlace;
+      «recip_kid» = spanIn s givenRecipKidPlace;
+      «free_text» = spanIn s givenFreeTextPlace;
+      «general_info» = spanIn s givenGeneralInfoPlace;
+      protection = spanIn s givenProtectionPlace;
+      request = spanIn s givenRequestPlace;
+      certificate = spanIn s givenCertificatePlace;
+    }
+
 -- the part that they name in the source, where they are not 0 and 0
 abbrev pub partIn : (s src : List ℕ) → (place : ℕ) → Option (List ℕ)
 partIn s src k = optionalPart src (spanIn s k)
 
 -- what is handed in, by its bytes
 abbrev pub givenIn : (version : ℕ) → (given source : List ℕ) → Given
-givenIn v given src = givenOf src (spansOf v given)
+givenIn v given src = givenOf src (spansIn v given)
 
 pub record GivenInPlace (v : ℕ) (s src : List ℕ) (g : Given) : Type 0 where
   pub version : g .version ≡ v
@@ -74,7 +92,7 @@ pub record WriteAnswers (out given src buf after : List ℕ) (v n : ℕ) : Type 
   pub answer :
       RightLengths out given
       → (k : ℕ)
-      × RefusalRules (spansInside src (spansOf v given)) (givenIn v given src) (outgoingOf out) (length buf) k
+      × RefusalRules (spansInside src (spansIn v given)) (givenIn v given src) (outgoingOf out) (length buf) k
       × (k ≢ 0 → (n ≡ inHighBits k) × (after ≡ buf))
       × (k ≡ 0 → (n ≡ length (encode (givenIn v given src) (outgoingOf out))) × (after ≡ encode (givenIn v given src) (outgoingOf out) ++ drop n buf))
 

@@ -21,6 +21,7 @@ use protocol::kinds::ERROR;
 use protocol::kinds::P10CR;
 use protocol::kinds::is_enrolment_kind;
 use protocol::kinds::is_response;
+ghost use mathlib.Core.Path.{_≡_};
 ghost use mathlib.Core.List.{[], _∷_, _++_};
 ghost use mathlib.Core.Option.{none};
 ghost use mathlib.Core.Bool.{cond};
@@ -37,6 +38,7 @@ ghost use Rattle.writer.specs.Code.{statusContent, responseContent, conf
 
 // ## PKIStatusInfo
 
+// The zeros before the byte with the bit: fewer than 32, as a bit's number has 8 bits, which `% 32` says to the prover.
 fn put_zeros(buf: &mut [u8], at: usize, n: u8) -> usize
     ensures { λ r. ⌜ Puts at r (zeros (n % 32)) (now (buf .entry)) (now (buf .exit)) ⌝ }
 {
@@ -177,11 +179,18 @@ fn put_responses(
 
 // ## certConf
 
-// The status info of a certConf: none where the status is 0.
+// "A certConf's status 0 being left out."
+fn is_left_out(status: u32) -> bool
+    ensures { λ r. ⌜ r ≡ eqb status 0 ⌝ }
+{
+    status == 0
+}
+
+// The status info of a certConf, or nothing.
 fn put_other_status(buf: &mut [u8], at: usize, status: u32) -> usize
     ensures { λ r. ⌜ Puts at r (cond (eqb status 0) [] (statusBytes status none)) (now (buf .entry)) (now (buf .exit)) ⌝ }
 {
-    if status == 0 {
+    if is_left_out(status) {
         return at;
     }
     put_status(buf, at, status, FailureInfo::NoBit)
@@ -190,7 +199,7 @@ fn put_other_status(buf: &mut [u8], at: usize, status: u32) -> usize
 fn other_status_size(status: u32) -> u16
     ensures { λ r. ⌜ Size r (cond (eqb status 0) [] (statusBytes status none)) ⌝ }
 {
-    if status == 0 {
+    if is_left_out(status) {
         return 0;
     }
     status_size(status, FailureInfo::NoBit)

@@ -76,6 +76,28 @@ pub fn turned(edit: &Path) -> Vec<(String, Vec<String>)> {
     found
 }
 
+/// What each wrong answer of an edit file replaces and by what, with the file that it stands in, in the order of the labels.
+pub fn replacements(edit: &Path) -> Vec<String> {
+    let (mut found, mut file) = (Vec::new(), String::new());
+    let content = text(edit);
+    let labelled = content.lines().any(|line| line.starts_with("# "));
+    for line in content.lines() {
+        if let Some(named) = line.strip_prefix("file: ") {
+            file = named.to_string();
+        } else if line.starts_with("# ") || (!labelled && found.is_empty()) {
+            found.push(file.clone());
+        }
+        if let (true, Some(last)) = (is_replacement(line), found.last_mut()) {
+            *last += &format!("\n{line}");
+        }
+    }
+    found
+}
+
+fn is_replacement(line: &str) -> bool {
+    line.starts_with("old: ") || line.starts_with("new:")
+}
+
 pub fn crate_of(path: &Path) -> String {
     let inside = path
         .strip_prefix(root().join("crates"))

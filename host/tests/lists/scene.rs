@@ -8,6 +8,7 @@ use duskstall_host::testing::answers::{
 };
 use duskstall_host::testing::ends::{EndEntityEnd, Ends, RegistrarEnd};
 use duskstall_host::testing::exchange::Parts;
+use duskstall_host::testing::writing::written;
 use duskstall_host::{
     Board, CertHash, Decision, EndEntityAnswer, EnrolmentState, FreshNonce, Outcome, Outgoing,
     RegistrarAnswer, TransactionId, TransactionState, Verdict,
@@ -18,6 +19,8 @@ pub struct Scene<E: Ends> {
     boards: Vec<E::EndEntity>,
     /// How many nonces were drawn: no two are the same.
     drawn: u128,
+    /// What the ends sent, as the library wrote it.
+    sent: Vec<(Parts, Vec<u8>)>,
 }
 
 /// The id X with this number.
@@ -47,7 +50,22 @@ impl<E: Ends> Scene<E> {
             registrar: E::Registrar::empty(),
             boards: Vec::new(),
             drawn: 0,
+            sent: Vec::new(),
         }
+    }
+
+    /// An end sends this, and the line gets it by its parts.
+    fn sends(&mut self, outgoing: &Outgoing) -> Parts {
+        let parts = Parts::of(outgoing);
+        self.sent.push((parts.clone(), written(outgoing)));
+        parts
+    }
+
+    /// A message as it comes: as it was written, or encoded anew where the line
+    /// has changed something.
+    fn bytes(&self, message: &Parts) -> Vec<u8> {
+        let as_sent = self.sent.iter().find(|(parts, _)| parts == message);
+        as_sent.map_or_else(|| message.encode(), |(_, bytes)| bytes.clone())
     }
 
     fn draw(&mut self) -> FreshNonce {
@@ -78,7 +96,7 @@ impl<E: Ends> Scene<E> {
         assert_eq!(request, expected);
         self.boards.push(board);
         self.board_says(self.boards.len() - 1, EnrolmentState::Asked);
-        Parts::of(&request)
+        self.sends(&request)
     }
 
     /// A board decides on a response and sends its certConf.
@@ -101,7 +119,8 @@ impl<E: Ends> Scene<E> {
         nonce: FreshNonce,
     ) -> Parts {
         let before = self.boards[board].enrolment();
-        let answer = self.boards[board].message(&response.encode(), true, decision, nonce);
+        let bytes = self.bytes(response);
+        let answer = self.boards[board].message(&bytes, true, decision, nonce);
         let sent = Outgoing {
             status: Some(if decision.accept { 0 } else { 2 }),
             hash: Some(decision.hash),
@@ -114,7 +133,7 @@ impl<E: Ends> Scene<E> {
             false => EnrolmentState::Declining,
         };
         self.board_says(board, state);
-        Parts::of(&sent)
+        self.sends(&sent)
     }
 
     /// A board takes a message that it does not answer.
@@ -157,7 +176,8 @@ impl<E: Ends> Scene<E> {
             hash: hash(0xEE),
         };
         let nonce = self.draw();
-        self.boards[board].message(&message.encode(), true, unused, nonce)
+        let bytes = self.bytes(message);
+        self.boards[board].message(&bytes, true, unused, nonce)
     }
 
     pub fn time_out(&mut self, board: usize, state: EnrolmentState) {
@@ -203,7 +223,7 @@ impl<E: Ends> Scene<E> {
         let (_, after) = self.registrar.find(id).expect("it is there");
         assert_eq!((after.sent, after.hash), (nonce.into(), hash));
         self.registrar_says(id, TransactionState::Granted);
-        Parts::of(&sent)
+        self.sends(&sent)
     }
 
     /// The host refuses, and the response goes out.
@@ -214,7 +234,7 @@ impl<E: Ends> Scene<E> {
         let answer = self.registrar.refuse(id, nonce);
         assert_eq!(answer, registrar_done(slot.0, Some(sent)));
         self.registrar_says(id, TransactionState::Refused);
-        Parts::of(&sent)
+        self.sends(&sent)
     }
 
     pub fn lapse(&mut self, id: TransactionId) {
@@ -263,7 +283,7 @@ impl<E: Ends> Scene<E> {
         let id = id_in(cert_conf);
         let (slot, _) = self.registrar.find(id).expect("it was opened");
         let nonce = self.draw();
-        let bytes = cert_conf.encode();
+        let bytes = self.bytes(cert_conf);
         let answer = self.registrar.message(&bytes, good(board), nonce);
         let sent = plain(19, id, nonce, nonce_in(&cert_conf.sender_nonce));
         let expected = RegistrarAnswer {
@@ -271,19 +291,20 @@ impl<E: Ends> Scene<E> {
             ..registrar_done(slot.0, Some(sent))
         };
         assert_eq!(answer, expected);
-        Parts::of(&sent)
+        self.sends(&sent)
     }
 
     /// A message is refused with an error message, and the table stays.
     pub fn refuses(&mut self, message: &Parts, verdict: Verdict, number: u8, bit: u8) -> Parts {
         let before = self.registrar.clone();
         let nonce = self.draw();
-        let answer = self.registrar.message(&message.encode(), verdict, nonce);
+        let bytes = self.bytes(message);
+        let answer = self.registrar.message(&bytes, verdict, nonce);
         let answered = nonce_in(&message.sender_nonce);
         let sent = error(id_in(message), nonce, answered, bit);
         assert_eq!(answer, registrar_refused(number, Some(bit), Some(sent)));
         assert!(self.registrar == before);
-        Parts::of(&sent)
+        self.sends(&sent)
     }
 
     /// A message cannot be read, so no error message can answer it, and the table
@@ -301,7 +322,8 @@ impl<E: Ends> Scene<E> {
 
     fn deliver(&mut self, message: &Parts, verdict: Verdict) -> RegistrarAnswer {
         let nonce = self.draw();
-        self.registrar.message(&message.encode(), verdict, nonce)
+        let bytes = self.bytes(message);
+        self.registrar.message(&bytes, verdict, nonce)
     }
 
     pub fn registrar_says(&self, id: TransactionId, state: TransactionState) {

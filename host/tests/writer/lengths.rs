@@ -145,9 +145,10 @@ fn grown_to(call: &Call, part: Part, child: usize, target: usize) -> Call {
     found.unwrap_or_else(|| panic!("{part:?} does not lead to {target}"))
 }
 
-/// Header, body and protection side by side, each at each turn at the same time.
+/// Header, body and the protection's BIT STRING side by side, each at each turn at
+/// the same time.
 #[test]
-fn all_elements_at_each_turn_at_once() {
+fn header_body_and_protection_at_each_turn_at_once() {
     let mut tally = Tally::default();
     for (kind, part) in [
         (0, Part::Request),
@@ -170,6 +171,27 @@ fn all_elements_at_each_turn_at_once() {
             }
         }
     }
+}
+
+/// Every part that the message may have is there, each with its innermost content
+/// at a turn: all at the same one, and at turns that go round in steps.
+#[test]
+fn all_parts_at_a_turn_at_once() {
+    let mut tally = Tally::default();
+    for kind in KINDS {
+        for (first, step) in (0..TURNS.len()).flat_map(|f| (0..TURNS.len()).map(move |s| (f, s))) {
+            let mut call = least(kind);
+            let parts = PARTS.into_iter().filter(|part| goes_with(*part, kind));
+            for (at, part) in parts.enumerate() {
+                let turn = TURNS[(first + at * step) % TURNS.len()];
+                // A BIT STRING's content has a byte before the bits.
+                let len = turn - usize::from(part == Part::Protection);
+                put(&mut call, part, &part_of(part, kind, len));
+            }
+            tally.written(&call);
+        }
+    }
+    tally.report("all parts at a turn");
 }
 
 /// The same call with the part grown so that the message has this size.

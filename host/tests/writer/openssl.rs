@@ -1,6 +1,6 @@
 //! OpenSSL as a reader of what the library writes: every kind, accepted and
-//! rejected, with as little and with as much in it as there is room for. `openssl_live.rs` sends them to its
-//! CMP client and server.
+//! rejected, with as little and with as much in it as there is room for.
+//! `openssl_live.rs` sends them to its CMP client and server.
 
 use super::tally::Tally;
 use duskstall_host::testing::der::parse;

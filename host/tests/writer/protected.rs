@@ -67,3 +67,30 @@ fn protect_is_handed_the_protected_part() {
     }
     assert_eq!(heads, BTreeSet::from([2, 3, 4]));
 }
+
+/// Room for the message without protection, and for each byte more but the last.
+#[test]
+fn refused_with_the_buffer_as_before() {
+    let (outgoing, elements) = (order(24), Elements::new());
+    let given = Given {
+        protection_alg: Some(&elements.algorithm),
+        ..elements.least(&outgoing)
+    };
+    let protect = |_: &[u8]| vec![0x5A; 20];
+    let mut longest = vec![0; MESSAGE_LIMIT];
+    let size = write_protected(&outgoing, &given, &mut longest, protect).expect("it fits");
+    let [mut handed, mut not_handed] = [0, 0];
+    for room in 0..size {
+        let mut buffer = vec![0xEE; room];
+        let mut called = false;
+        let refused = write_protected(&outgoing, &given, &mut buffer, |part| {
+            called = true;
+            protect(part)
+        });
+        assert_eq!(refused.map_err(|refusal| refusal.number), Err(35));
+        assert_eq!(buffer, vec![0xEE; room]);
+        *(if called { &mut handed } else { &mut not_handed }) += 1;
+    }
+    // [0], BIT STRING and its 21 bytes.
+    assert_eq!((handed, handed + not_handed), (25, size));
+}
