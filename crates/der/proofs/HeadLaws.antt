@@ -5,7 +5,7 @@ use native.Mathlib.Nat.{mul-add-mod-self-right, mod-eq-of-lt, mul-add-div-right,
 use mathlib.Core.List.{List}
 use mathlib.Core.Bool.{Bool, true, false, cond, _||_}
 use native.Mathlib.Omega.{arith}
-use borrow.Author.Tests.{leb-true}
+use borrow.Author.Tests.{leb-true, lt-ltb, le-ltb, eq-eqb, ne-eqb}
 use lib.ListN.{length, getD, take, drop, length-take}
 use lib.Dec.{ltb, leb, eqb, lit≤, lit<}
 use Rattle.der.specs.declared.head.Head.{Head}
@@ -67,6 +67,50 @@ span-in m a e h is k = omega (arith, whole-in (take (e - a) (drop a m)) is k, le
 pub packed-inside : (n tag start len : ℕ) → packedOf (inside n tag start len) ≡ fitOf n start len
 unfolding inside
 packed-inside n tag start len = cond-both (λ (h : Head). packedOf h ≡ fitOf n start len) (leb (start + len) n) (λ e. simp e) (λ e. simp e)
+
+-- ## A length by its form
+
+-- a length in one of the three forms, and minimal: all that is left to ask is whether so many bytes fit
+unfoldable pub Form : List ℕ → ℕ → ℕ → Type 0
+Form s start len = (start < 5) × (len < 65536) × (fitOf (length s) start len ≡ packedOf (lengthOf s))
+
+pub no-form : (s : List ℕ) → length s < 2 → lengthOf s ≡ Bad 2
+unfolding lengthOf
+no-form s h = simp (lt-ltb (length s) 2 h)
+
+module _ (s : List ℕ) (two : 2 ≤ length s) {first : ℕ} (is : first ≡ byte s 1) where
+  pub short-form : first ≤ 127 → Form s 2 first
+  unfolding lengthOf Form
+  short-form h =
+      (lit< tt, omega arith, rw is (simp (le-ltb (length s) 2 two, lt-ltb (byte s 1) 128 (omega (arith, is, h)), packed-inside)))
+
+  pub by-81 : first ≡ 129 → lengthOf s ≡ length81 s
+  unfolding lengthOf
+  by-81 e = simp (le-ltb (length s) 2 two, sym is ∙ e)
+
+  pub by-82 : first ≡ 130 → lengthOf s ≡ length82 s
+  unfolding lengthOf
+  by-82 e = simp (le-ltb (length s) 2 two, sym is ∙ e)
+
+  pub other-form : 127 < first → (first ≡ 129 → ⊥) → (first ≡ 130 → ⊥) → lengthOf s ≡ Bad 2
+  unfolding lengthOf
+  other-form h n m =
+      simp (le-ltb (length s) 2 two, le-ltb (byte s 1) 128 (omega (arith, is, h)), ne-eqb (byte s 1) 129 (λ e. n (is ∙ e)), ne-eqb (byte s 1) 130 (λ e. m (is ∙ e)))
+
+module _ (s : List ℕ) where
+  pub form-81 : lengthOf s ≡ length81 s → 3 ≤ length s → {len : ℕ} → (len ≡ byte s 2) × (len < 256) → 128 ≤ len → Form s 3 len
+  unfolding length81 Form
+  form-81 e three r h =
+      (lit< tt, omega (arith, r .1), rw (r .0) (simp (e, le-ltb (length s) 3 three, le-ltb (byte s 2) 128 (omega (arith, r .0, h)), packed-inside)))
+
+  pub form-82 : lengthOf s ≡ length82 s → 4 ≤ length s → {a b : ℕ} → (a ≡ byte s 2) × (a < 256) → (b ≡ byte s 3) × (b < 256) → 256 ≤ a * 256 + b → Form s 4 (a * 256 + b)
+  unfolding length82 Form
+  form-82 e four q r h =
+      (lit< tt, omega (arith, q .1, r .1), rw (q .0, r .0) (simp (e, le-ltb (length s) 4 four, ne-eqb (byte s 2) 0 (λ z. omega (arith, z, q .0, r .1, h)), packed-inside)))
+
+  pub low-82 : lengthOf s ≡ length82 s → 4 ≤ length s → {a : ℕ} → a ≡ byte s 2 → (b : ℕ) → a * 256 + b < 256 → lengthOf s ≡ Bad 2
+  unfolding length82
+  low-82 e four q b h = simp (e, le-ltb (length s) 4 four, eq-eqb (byte s 2) 0 (omega (arith, q, h)))
 
 -- what a number says of its head: 0 that it is bad, by rule r, and any other where the content is
 unfoldable Packs : ℕ → List ℕ → Head → Type 0

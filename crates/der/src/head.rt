@@ -2,7 +2,7 @@
 ghost use mathlib.Core.Path.{_≡_};
 ghost use Prim.Native.Nat.{_<_};
 ghost use lib.Dec.{ltb};
-ghost use Rattle.der.specs.Head.{byte, tagOk, length81, length82, lengthOf, headOf};
+ghost use Rattle.der.specs.Head.{byte, tagOk, lengthOf, headOf};
 ghost use Rattle.der.specs.Code.{fitOf, packedOf, brokenRule};
 
 // An element whose content is `len` bytes from `start`, or the rule that its tag and length break.
@@ -41,34 +41,6 @@ fn fit(n: usize, start: usize, len: usize) -> usize
     if start + len <= n { len * 8 + start } else { 0 }
 }
 
-fn length_81(s: &[u8]) -> usize
-    ensures { λ r. ⌜ r ≡ packedOf (length81 (now (s .entry))) ⌝ }
-{
-    let n = s.len();
-    if n < 3 {
-        return 0;
-    }
-    let a = s[2];
-    if a < 128 {
-        return 0;
-    }
-    fit(n, 3, wide(a))
-}
-
-fn length_82(s: &[u8]) -> usize
-    ensures { λ r. ⌜ r ≡ packedOf (length82 (now (s .entry))) ⌝ }
-{
-    let n = s.len();
-    if n < 4 {
-        return 0;
-    }
-    let a = s[2];
-    if a == 0 {
-        return 0;
-    }
-    fit(n, 4, wide(a) * 256 + wide(s[3]))
-}
-
 // The bytes that tag and length take where the length is short.
 pub(crate) const SHORT: usize = 2;
 
@@ -84,20 +56,38 @@ pub(crate) fn read_length(s: &[u8]) -> usize
     ensures { λ r. ⌜ r ≡ packedOf (lengthOf (now (s .entry))) ⌝ }
 {
     let n = s.len();
-    if n < 2 {
+    if n < SHORT {
         return 0;
     }
-    let first = s[1];
-    if first < 128 {
-        return fit(n, 2, wide(first));
+    let first = wide(s[1]);
+    let mut start = SHORT;
+    let mut len = first;
+    if is_long(first) {
+        if first == 129 {
+            // 81 xx: 128 to 255
+            if n < 3 {
+                return 0;
+            }
+            start = 3;
+            len = wide(s[2]);
+            if len < 128 {
+                return 0;
+            }
+        } else if first == 130 {
+            // 82 xx xx: 256 up
+            if n < 4 {
+                return 0;
+            }
+            start = 4;
+            len = wide(s[2]) * 256 + wide(s[3]);
+            if len < 256 {
+                return 0;
+            }
+        } else {
+            return 0;
+        }
     }
-    if first == 129 {
-        return length_81(s);
-    }
-    if first == 130 {
-        return length_82(s);
-    }
-    0
+    fit(n, start, len)
 }
 
 // Tag and length as one number: the content's length times 8, and the bytes that tag and length take; 0 where they are bad.
