@@ -3,9 +3,9 @@ use Prim.Native.Nat.{ℕ, _+_, _-_, _*_, _/_, _%_, _<_, _≤_}
 use mathlib.Core.Path.{_≡_, refl, sym, _∙_, ap, subst}
 use native.Mathlib.Nat.{mul-add-mod-self-right, mod-eq-of-lt, mul-add-div-right, div-eq-of-lt, add-zero}
 use mathlib.Core.List.{List}
-use mathlib.Core.Bool.{Bool, true, false, cond, _||_}
+use mathlib.Core.Bool.{Bool, true, false, not, cond, _||_}
 use native.Mathlib.Omega.{arith}
-use borrow.Author.Tests.{leb-true, lt-ltb, le-ltb, eq-eqb, ne-eqb}
+use borrow.Author.Tests.{leb-true, ltb-true, ltb-false, eqb-false, lt-ltb, le-ltb, eq-eqb, ne-eqb}
 use lib.ListN.{length, getD, take, drop, length-take}
 use lib.Dec.{ltb, leb, eqb, lit≤, lit<}
 use Rattle.der.specs.declared.head.Head.{Head}
@@ -21,6 +21,35 @@ cond-both P false p q = q refl
 -- what holds in each case, whatever the test
 pub cond-case {ℓ ℓ′} : {A : Type ℓ} (P : A → Type ℓ′) (b : Bool) {x y : A} → P x → P y → P (cond b x y)
 cond-case P b p q = cond-both P b (λ e. p) (λ e. q)
+
+-- ## A tag by its number, the low five bits
+
+module _ (t : ℕ) where
+  pub number-31 : t % 32 ≡ 31 → tagOk t ≡ false
+  unfolding tagOk
+  number-31 e = simp e
+
+  -- below 64, where the class is universal, the tags of number 0 are 0 and 32
+  universal-0 : t % 32 ≡ 0 → t ≤ 63 → (eqb t 0 || eqb t 32) ≡ true
+  universal-0 e h = go (eqb t 0) refl
+    where
+      go : (zero : Bool) → eqb t 0 ≡ zero → (zero || eqb t 32) ≡ true
+      go true q = refl
+      go false q = eq-eqb t 32 (omega (arith, e, h, eqb-false t 0 q))
+
+  pub number-0 : t % 32 ≡ 0 → tagOk t ≡ ltb 63 t
+  unfolding tagOk
+  number-0 e = go (ltb 63 t) refl
+    where
+      go : (high : Bool) → ltb 63 t ≡ high → not (eqb (t % 32) 31 || (eqb t 0 || eqb t 32)) ≡ high
+      go true h = simp (e, ne-eqb t 0 (λ z. omega (arith, z, ltb-true 63 t h)), ne-eqb t 32 (λ z. omega (arith, z, ltb-true 63 t h)))
+      go false h = simp (e, universal-0 e (ltb-false 63 t h))
+
+  pub other-number : (t % 32 ≡ 31 → ⊥) → (t % 32 ≡ 0 → ⊥) → tagOk t ≡ true
+  unfolding tagOk
+  other-number n z = simp (ne-eqb (t % 32) 31 n, ne-eqb t 0 (λ e. z (omega (arith, e))), ne-eqb t 32 (λ e. z (omega (arith, e))))
+
+-- ## A head that is whole
 
 -- of n bytes, a head that is whole takes at least two, and its content ends inside
 unfoldable pub HeadIn : ℕ → Head → Type 0

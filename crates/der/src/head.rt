@@ -22,15 +22,14 @@ pub(crate) fn wide(x: u8) -> usize
 pub fn tag_ok(t: u8) -> bool
     ensures { λ r. ⌜ r ≡ tagOk t ⌝ }
 {
-    if t % 32 == 31 {
-        false
-    } else if t == 0 {
-        false
-    } else if t == 32 {
-        false
-    } else {
-        true
+    let number = t % 32;
+    if number == 31 {
+        return false;
     }
+    if number == 0 {
+        return 63 < t;
+    }
+    true
 }
 
 // A head that is whole as one number: its content's length times 8, and how many bytes it takes itself. 0: it is bad.
