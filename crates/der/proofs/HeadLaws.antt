@@ -1,4 +1,5 @@
--- Laws of tag and length: a head that is whole takes two to four bytes, and its content ends inside the parent.
+-- Laws of tag and length: a tag by its number, a length by its form; a head that is whole takes two to four bytes, and its content ends inside
+-- the parent.
 use Prim.Native.Nat.{ℕ, _+_, _-_, _*_, _/_, _%_, _<_, _≤_}
 use mathlib.Core.Path.{_≡_, refl, sym, _∙_, ap, subst}
 use native.Mathlib.Nat.{mul-add-mod-self-right, mod-eq-of-lt, mul-add-div-right, div-eq-of-lt, add-zero}
@@ -91,17 +92,11 @@ whole-in s e k = subst (HeadIn (length s)) (sym e ∙ k) (head-in s)
 pub span-in : (m : List ℕ) (a e : ℕ) {r : Head} {tag start len : ℕ} → a ≤ e → r ≡ headOf (take (e - a) (drop a m)) → r ≡ Whole tag start len → (2 ≤ start) × (a + start + len ≤ e)
 span-in m a e h is k = omega (arith, whole-in (take (e - a) (drop a m)) is k, length-take (e - a) (drop a m))
 
--- ## A head as one number
-
-pub packed-inside : (n tag start len : ℕ) → packedOf (inside n tag start len) ≡ fitOf n start len
-unfolding inside
-packed-inside n tag start len = cond-both (λ (h : Head). packedOf h ≡ fitOf n start len) (leb (start + len) n) (λ e. simp e) (λ e. simp e)
-
 -- ## A length by its form
 
--- a length in one of the three forms, and minimal: all that is left to ask is whether so many bytes fit
+-- the length is `len`, from `start` on, where so many bytes fit
 unfoldable pub Form : List ℕ → ℕ → ℕ → Type 0
-Form s start len = (start < 5) × (len < 65536) × (fitOf (length s) start len ≡ packedOf (lengthOf s))
+Form s start len = (start < 5) × (len < 65536) × (lengthOf s ≡ inside (length s) (byte s 0) start len)
 
 pub no-form : (s : List ℕ) → length s < 2 → lengthOf s ≡ Bad 2
 unfolding lengthOf
@@ -111,7 +106,7 @@ module _ (s : List ℕ) (two : 2 ≤ length s) {first : ℕ} (is : first ≡ byt
   pub short-form : first ≤ 127 → Form s 2 first
   unfolding lengthOf Form
   short-form h =
-      (lit< tt, omega arith, rw is (simp (le-ltb (length s) 2 two, lt-ltb (byte s 1) 128 (omega (arith, is, h)), packed-inside)))
+      (lit< tt, omega arith, rw is (simp (le-ltb (length s) 2 two, lt-ltb (byte s 1) 128 (omega (arith, is, h)))))
 
   pub by-81 : first ≡ 129 → lengthOf s ≡ length81 s
   unfolding lengthOf
@@ -130,16 +125,22 @@ module _ (s : List ℕ) where
   pub form-81 : lengthOf s ≡ length81 s → 3 ≤ length s → {len : ℕ} → (len ≡ byte s 2) × (len < 256) → 128 ≤ len → Form s 3 len
   unfolding length81 Form
   form-81 e three r h =
-      (lit< tt, omega (arith, r .1), rw (r .0) (simp (e, le-ltb (length s) 3 three, le-ltb (byte s 2) 128 (omega (arith, r .0, h)), packed-inside)))
+      (lit< tt, omega (arith, r .1), rw (r .0) (simp (e, le-ltb (length s) 3 three, le-ltb (byte s 2) 128 (omega (arith, r .0, h)))))
 
   pub form-82 : lengthOf s ≡ length82 s → 4 ≤ length s → {a b : ℕ} → (a ≡ byte s 2) × (a < 256) → (b ≡ byte s 3) × (b < 256) → 256 ≤ a * 256 + b → Form s 4 (a * 256 + b)
   unfolding length82 Form
   form-82 e four q r h =
-      (lit< tt, omega (arith, q .1, r .1), rw (q .0, r .0) (simp (e, le-ltb (length s) 4 four, ne-eqb (byte s 2) 0 (λ z. omega (arith, z, q .0, r .1, h)), packed-inside)))
+      (lit< tt, omega (arith, q .1, r .1), rw (q .0, r .0) (simp (e, le-ltb (length s) 4 four, ne-eqb (byte s 2) 0 (λ z. omega (arith, z, q .0, r .1, h)))))
 
   pub low-82 : lengthOf s ≡ length82 s → 4 ≤ length s → {a : ℕ} → a ≡ byte s 2 → (b : ℕ) → a * 256 + b < 256 → lengthOf s ≡ Bad 2
   unfolding length82
   low-82 e four q b h = simp (e, le-ltb (length s) 4 four, eq-eqb (byte s 2) 0 (omega (arith, q, h)))
+
+-- ## A head as one number
+
+pub packed-inside : (n tag start len : ℕ) → packedOf (inside n tag start len) ≡ fitOf n start len
+unfolding inside
+packed-inside n tag start len = cond-both (λ (h : Head). packedOf h ≡ fitOf n start len) (leb (start + len) n) (λ e. simp e) (λ e. simp e)
 
 -- what a number says of its head: 0 that it is bad, by rule r, and any other where the content is
 unfoldable Packs : ℕ → List ℕ → Head → Type 0

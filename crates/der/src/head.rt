@@ -18,7 +18,7 @@ pub(crate) fn wide(x: u8) -> usize
     x as usize
 }
 
-// Whether a tag may stand: one byte, and not the universal tag 0.
+// Whether a tag may stand: one byte (the number 31 would say that more follow), and not the universal tag 0, which is below 64.
 pub fn tag_ok(t: u8) -> bool
     ensures { λ r. ⌜ r ≡ tagOk t ⌝ }
 {
@@ -50,7 +50,7 @@ pub(crate) fn is_long(first: usize) -> bool
     127 < first
 }
 
-// The length alone as one number, the tag not looked at.
+// The length alone as one number, the tag not looked at: each of the three forms sets where the content starts and how long it is.
 pub(crate) fn read_length(s: &[u8]) -> usize
     ensures { λ r. ⌜ r ≡ packedOf (lengthOf (now (s .entry))) ⌝ }
 {
@@ -64,20 +64,20 @@ pub(crate) fn read_length(s: &[u8]) -> usize
     if is_long(first) {
         if first == 129 {
             // 81 xx: 128 to 255
-            if n < 3 {
+            start = 3;
+            if n < start {
                 return 0;
             }
-            start = 3;
             len = wide(s[2]);
             if len < 128 {
                 return 0;
             }
         } else if first == 130 {
             // 82 xx xx: 256 up
-            if n < 4 {
+            start = 4;
+            if n < start {
                 return 0;
             }
-            start = 4;
             len = wide(s[2]) * 256 + wide(s[3]);
             if len < 256 {
                 return 0;

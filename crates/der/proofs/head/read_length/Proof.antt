@@ -6,8 +6,8 @@ use native.Mathlib.Omega.{arith}
 use borrow.Author.Tests.{ltb-true, ltb-false}
 use lib.ListN.{length}
 use Rattle.der.proofs.Auto.{tests, told}
-use Rattle.der.proofs.HeadLaws.{Form, no-form, short-form, by-81, by-82, other-form, form-81, form-82, low-82}
-use Rattle.der.specs.Head.{byte, lengthOf, length81, length82}
+use Rattle.der.proofs.HeadLaws.{packed-inside, Form, no-form, short-form, by-81, by-82, other-form, form-81, form-82, low-82}
+use Rattle.der.specs.Head.{lengthOf, length81, length82}
 use Rattle.der.specs.Code.{packedOf}
 use Rattle.der.proofs.head.fit.Reads as fit-reads
 use Rattle.der.proofs.head.is_long.Reads as is-long-reads
@@ -17,6 +17,7 @@ use Rattle.der.proofs.head.read_length.Lts as lts
 use Rattle.der.proofs.head.read_length.Statement.{statement}
 use Rattle.der.proofs.head.read_length.Tie as tie
 
+-- what each call asks and promises
 abbrev claims : lts.Claims
 claims = (wide-reads.Asked, wide-reads.Learnt, is-long-reads.Asked, is-long-reads.Learnt, fit-reads.Asked, fit-reads.Learnt)
 
@@ -91,4 +92,4 @@ read-length-spec = tie.close (tie.spec
     low-returns
     other-returns
     (λ c κs. (form c .0, form c .1))
-    (λ c. c .fit .ensures ∙ form (c .before) .2))
+    (λ c. c .fit .ensures ∙ sym (ap packedOf (form (c .before) .2) ∙ packed-inside _ _ _ _)))
