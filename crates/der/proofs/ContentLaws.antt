@@ -5,7 +5,7 @@ use native.Mathlib.Nat.{add-sub_cancel, le_of_eq, lt_irrefl}
 use native.Mathlib.Omega.{arith}
 use borrow.Author.Tests.{eq-eqb, ne_eqb, eqb-true, eqb-false, leb-true, leb-false}
 use mathlib.Core.List.{List, [], ◌∷◌}
-use mathlib.Core.Bool.{Bool, true, false, not, cond, ◌&&◌, ◌||◌, and_false}
+use mathlib.Core.Bool.{Bool, true, false, not, cond, ◌&&◌, ◌||◌, and-false}
 use native.Mathlib.Numerals.{add-one, sub-one}
 use lib.ListN.{length, get_or, drop, drop_of_length-le}
 use lib.Seq.{drop-cons}
@@ -91,9 +91,9 @@ last-is x (y ∷ c) = last-is y c
 
 plain : (fresh : Bool) (x : ℕ) (c : List ℕ) → has80 (x ∷ c) ≡ false → arcs_ok fresh (x ∷ c) ≡ ltb (last_of x c) 128
 unfolding has80 arcs_ok last_of
-plain fresh x [] e = simp (or_false_left (eqb x 128) false e, and_false)
+plain fresh x [] e = simp (or_false_left (eqb x 128) false e, and-false)
 plain fresh x (y ∷ c) e =
-    simp (or_false_left (eqb x 128) (has80 (y ∷ c)) e, and_false) (plain (ltb x 128) y c (or_false_right (eqb x 128) (has80 (y ∷ c)) e))
+    simp (or_false_left (eqb x 128) (has80 (y ∷ c)) e, and-false) (plain (ltb x 128) y c (or_false_right (eqb x 128) (has80 (y ∷ c)) e))
 
 -- without a byte 80 the last byte decides
 pub arcs_plain : (c : List ℕ) → 0 < length c → has80 c ≡ false → arcs_ok true c ≡ ltb (get_or c (length c - 1) 0) 128

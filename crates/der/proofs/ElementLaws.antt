@@ -6,7 +6,7 @@ use mathlib.Core.Bool.{Bool, true, false, not, ◌&&◌}
 use native.Mathlib.Nat.{lt_irrefl, add-zero, add_assoc, add-sub_cancel_left, sub-zero, zero-sub, suc-sub-suc}
 use native.Mathlib.Numerals.{sub-one}
 use native.Mathlib.Omega.{arith}
-use borrow.Author.Tests.{eq-eqb, ne_eqb, eqb-false, not_true}
+use borrow.Author.Tests.{eq-eqb, ne_eqb, eqb-false, not-true}
 use lib.ListN.{length, take, drop, length-drop, length-take, drop_of_length-le}
 use lib.Seq.{drop-drop, take_all, take-nil}
 use lib.Dec.{eqb, lit≤, T}
@@ -31,7 +31,7 @@ ElementIn d n (Constructed start len) = (2 ≤ start) × (start + len ≤ n) × 
 ElementIn d n (Faulty rule) = Unit {0}
 
 deep : (b : Bool) (d : ℕ) → (b && not (eqb d 0)) ≡ true → 0 < d
-deep true d e = omega (arith, eqb-false d 0 (not_true (eqb d 0) e))
+deep true d e = omega (arith, eqb-false d 0 (not-true (eqb d 0) e))
 deep false d e = absurd (subst T (sym e) tt)
 
 judge_in : (d : ℕ) (s : List ℕ) (h : Head) → HeadIn (length s) h → ElementIn d (length s) (judge d s h)

@@ -2,7 +2,7 @@
 use Prim.Native.Nat.{ℕ, ◌+◌, ◌-◌, ◌/◌, ◌%◌, ◌<◌, ◌≤◌}
 use mathlib.Core.Path.{◌≡◌, refl, sym, ◌∙◌, ap, subst}
 use mathlib.Core.List.{List}
-use mathlib.Core.Bool.{Bool, true, false, not, cond, ◌&&◌, ◌||◌, and_false, true≢false}
+use mathlib.Core.Bool.{Bool, true, false, not, cond, ◌&&◌, ◌||◌, and-false, true≢false}
 use native.Mathlib.Nat.{add-zero, add-sub_cancel_left, mod-eq_of_lt, div-eq_of_lt, mod-eq-sub-mod, div-eq_of_lt-le}
 use native.Mathlib.Omega.{arith}
 use borrow.Author.Tests.{eq-eqb, ne_eqb, lt-ltb, le-ltb, lt-leb, le-leb, eqb-true, eqb-false, ltb-true, ltb-false}
@@ -84,7 +84,7 @@ module _ (tag : ℕ) (c : List ℕ) where
 
   formed : (f : Bool) → form_ok tag ≡ f → 6 < tag → (tag % 32 ≡ 31 → ⊥) → kind_of tag c ≡ cond (form_ok tag) (cond (constructed tag) 1 0) 2
   unfolding kind_of tag_ok form_ok
-  formed false q h n = simp (q, and_false)
+  formed false q h n = simp (q, and-false)
   formed true q h n =
       let no_32 : tag ≡ 32 → ⊥ = λ e. true≢false (sym q ∙ ap form_ok e) in
       simp (ne_eqb (tag % 32) 31 n, ne_eqb tag 0 (λ e. omega arith), ne_eqb tag 32 no_32, content_opaque tag c (omega arith) (λ e. omega arith) (λ e. omega arith))
@@ -143,7 +143,7 @@ bad_length_lem d s e =
 no_level : (d : ℕ) (s : List ℕ) (h : Head) → d ≡ 0 → judge d s h ≡ Faulty (rule_of d h)
 unfolding judge rule_of
 no_level d s (Bad rule) e = refl
-no_level d s (Whole tag start len) e = simp (eq-eqb d 0 e, and_false)
+no_level d s (Whole tag start len) e = simp (eq-eqb d 0 e, and-false)
 
 module _ (d : ℕ) (s : List ℕ) (start len : ℕ) (e : length_of s ≡ Whole (byte s 0) start len) (level : d ≡ 0 → ⊥) where
   by_tests : (a f b k : Bool) → tag_ok (byte s 0) ≡ a → form_ok (byte s 0) ≡ f → constructed (byte s 0) ≡ b → content_ok (byte s 0) (take len (drop start s)) ≡ k → element_of d s ≡ of_kind d s start len (kind_of (byte s 0) (take len (drop start s)))

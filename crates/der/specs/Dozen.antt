@@ -47,11 +47,11 @@ pub ◌says◌ : List ℕ → Check → Case
 b says a = record { bytes = b; says = a; number = none }
 
 -- a sound INTEGER
-pub ◌isNumber◌ : List ℕ → ℕ → Case
+pub ◌is_number◌ : List ℕ → ℕ → Case
 b is_number n = record { bytes = b; says = Sound; number = some n }
 
 infix 4 ◌says◌
-infix 4 ◌isNumber◌
+infix 4 ◌is_number◌
 -- each case is answered as it says, is an element exactly where no fault is said, and says the number given, by its definition and as
 -- it is computed
 pub answered : List Case → Bool
@@ -78,5 +78,5 @@ cases =
     ∷ []
 
 pub dozen : answered cases ≡ true
-unfolding answered same same_number integer_in integer_said minus cases ◌says◌ ◌isNumber◌ tag_ok inside length81 length82 length_of head_of boolean_ok integer_ok bit_string_ok arcs_ok oid_ok content_ok form_ok judge element_of each_element content_at check_at check fills is_element unsigned integer_of shift_in signed32
+unfolding answered same same_number integer_in integer_said minus cases ◌says◌ ◌is_number◌ tag_ok inside length81 length82 length_of head_of boolean_ok integer_ok bit_string_ok arcs_ok oid_ok content_ok form_ok judge element_of each_element content_at check_at check fills is_element unsigned integer_of shift_in signed32
 dozen = refl

@@ -12,7 +12,7 @@ use crate::{Offset, head};
 pub const MAX_DEPTH: u8 = 16;
 
 // One element by itself, its content not looked into: a type of the definitions. The code has a number for it, `kind`.
-#[derive(Drop)]
+#[derive(Clone, Copy)]
 pub enum Element {
     // its size, tag and length included
     Primitive(usize),
@@ -23,7 +23,7 @@ pub enum Element {
 }
 
 // Elements with all that they hold: no fault, or the first one's offset and rule.
-#[derive(Drop)]
+#[derive(Clone, Copy)]
 pub enum Check {
     Sound,
     Fault(Offset, u8),

@@ -4,7 +4,7 @@ ghost use Rattle.der.specs.Head.{byte, tag_ok, length_of, head_of};
 ghost use Rattle.der.specs.Code.{fit_of, packed_of, broken_rule};
 
 // An element whose content is `len` bytes from `start`, or the rule that its tag and length break.
-#[derive(Drop)]
+#[derive(Clone, Copy)]
 pub enum Head {
     Whole { tag: u8, start: usize, len: usize },
     Bad(u8),

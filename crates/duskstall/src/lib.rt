@@ -1,4 +1,6 @@
 // The static library for the host: functions over numbers and byte slices. Every one is total, whatever it is handed.
+#![tactic(auto)]
+
 mod boundary;
 pub mod end_entity_calls;
 pub mod registrar_calls;

@@ -6,7 +6,7 @@ use mathlib.Core.Bool.{Bool, true, false, cond, ◌||◌, true≢false}
 use mathlib.Core.Logic.{◌⊎◌, inl, inr}
 use native.Mathlib.Nat.{mod-eq_of_lt}
 use native.Mathlib.Omega.{arith}
-use borrow.Author.Tests.{lt-ltb, le-ltb, lt-leb, le-leb, eq-eqb, ne_eqb, eqb-true, eqb-false, not_true, ltb-true, ltb-false, leb-true, leb-false}
+use borrow.Author.Tests.{lt-ltb, le-ltb, lt-leb, le-leb, eq-eqb, ne_eqb, eqb-true, eqb-false, not-true, ltb-true, ltb-false, leb-true, leb-false}
 use lib.ListN.{length}
 use lib.Dec.{ltb, leb, eqb, lit≤}
 use Rattle.der.specs.Content.{integer_ok}
@@ -198,7 +198,7 @@ shortest : (a b : ℕ) (s : List ℕ) → integer_ok (a ∷ b ∷ s) ≡ true �
 unfolding integer_ok
 shortest a b s h =
     let t = simp (ne_eqb (length (a ∷ b ∷ s)) 0 (λ e. omega arith), le-ltb (length (a ∷ b ∷ s)) 2 (omega arith)) at h in (
-      (λ e. ltb-false b 128 (not_true (ltb b 128) (simp (eq-eqb a 0 e) at t))),
+      (λ e. ltb-false b 128 (not-true (ltb b 128) (simp (eq-eqb a 0 e) at t))),
       λ e. ltb-true b 128 (simp (ne_eqb a 0 (λ z. omega arith), eq-eqb a 255 e) at t),
     )
 

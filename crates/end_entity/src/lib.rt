@@ -1,4 +1,6 @@
 // The end entity (01's board end): its calls on one enrolment. The start, a message, and a time out.
+#![tactic(auto)]
+
 mod answers;
 mod rows;
 mod states;

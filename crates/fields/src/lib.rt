@@ -1,4 +1,6 @@
 // A reading as numbers at fixed places of a lent array, and the DER check as one number.
+#![tactic(auto)]
+
 mod places;
 
 ghost use Rattle.std.specs.Prelude.{◌≡◌};

@@ -1,4 +1,6 @@
 // What a caller gives beside an order, as spans over bytes that it lends; and whether it fits.
+#![tactic(auto)]
+
 pub mod fits;
 pub mod numbers;
 
@@ -7,7 +9,7 @@ use grammar::Span;
 // What the caller gives beside the order: parts of bytes that it lends. An absent part starts at 0 and has no length, as in a reading, so that
 // none starts at the first byte. Names, protectionAlg, freeText, generalInfo, request and certificate are whole elements, the others
 // contents, of the protection the BIT STRING's.
-#[derive(Drop)]
+#[derive(Clone, Copy)]
 pub struct GivenSpans {
     // pvno in 32 bits of two's complement
     pub version: u32,

@@ -11,7 +11,7 @@ use crate::parts::{
 };
 
 // What a body's entries are.
-#[derive(Drop)]
+#[derive(Clone, Copy)]
 pub enum EntryKind {
     Request,
     Response,
@@ -19,14 +19,14 @@ pub enum EntryKind {
 }
 
 // An entry, and the cursor past it.
-#[derive(Drop)]
+#[derive(Clone, Copy)]
 pub struct Item {
     pub cur: Cursor,
     pub entry: Entry,
 }
 
 // The entries read so far: how many, and the last one.
-#[derive(Drop)]
+#[derive(Clone, Copy)]
 pub struct Entries {
     pub cur: Cursor,
     pub count: usize,

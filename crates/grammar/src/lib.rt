@@ -1,4 +1,6 @@
 // The grammar of a PKIMessage (RFC 9810) as document 01 takes it: where each part stands, or where the grammar is broken.
+#![tactic(auto)]
+
 pub mod alone;
 mod cursor;
 mod entries;
@@ -13,14 +15,14 @@ ghost use Rattle.grammar.specs.Span.{part_of};
 use der::Offset;
 
 // A part of the message. An absent one starts at 0, where no part but the whole message can start, and has no length.
-#[derive(Drop)]
+#[derive(Clone, Copy)]
 pub struct Span {
     pub start: Offset,
     pub len: usize,
 }
 
 // PKIHeader. Names, protectionAlg, freeText and generalInfo are whole elements, the other spans contents.
-#[derive(Drop)]
+#[derive(Clone, Copy)]
 pub struct Header {
     // pvno in 32 bits of two's complement
     pub version: u32,
@@ -39,7 +41,7 @@ pub struct Header {
 
 // What the only entry of a body says. All of it is zero or absent where there is none or more than one, but for the status of an
 // error message and the request of a p10cr, which have no entries.
-#[derive(Drop)]
+#[derive(Clone, Copy)]
 pub struct Entry {
     // certReqId in 32 bits of two's complement
     pub number: u32,
@@ -55,7 +57,7 @@ pub struct Entry {
 }
 
 // PKIBody: its kind is the number of its tag. `ca_pubs` is a whole element.
-#[derive(Drop)]
+#[derive(Clone, Copy)]
 pub struct Body {
     pub kind: u8,
     pub entries: usize,
@@ -64,7 +66,7 @@ pub struct Body {
 }
 
 // PKIMessage: four whole elements, and what the first two say.
-#[derive(Drop)]
+#[derive(Clone, Copy)]
 pub struct Message {
     pub header_span: Span,
     pub body_span: Span,

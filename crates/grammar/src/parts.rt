@@ -15,7 +15,7 @@ use der::Offset;
 use der::head::tag_ok;
 
 // What a SEQUENCE OF holds.
-#[derive(Drop)]
+#[derive(Clone, Copy)]
 pub enum Each {
     Text,
     Certificate,
@@ -23,7 +23,7 @@ pub enum Each {
 }
 
 // PKIStatusInfo: whether it is there, and its status.
-#[derive(Drop)]
+#[derive(Clone, Copy)]
 pub struct Status {
     pub cur: Cursor,
     pub given: bool,

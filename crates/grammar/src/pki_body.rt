@@ -10,7 +10,7 @@ use crate::parts::{
 use crate::{Body, Entry, Span};
 
 // What a body holds.
-#[derive(Drop)]
+#[derive(Clone, Copy)]
 pub struct Contents {
     pub cur: Cursor,
     pub entries: usize,
@@ -18,7 +18,7 @@ pub struct Contents {
     pub entry: Entry,
 }
 
-#[derive(Drop)]
+#[derive(Clone, Copy)]
 pub struct BodyRead {
     pub cur: Cursor,
     pub body: Body,

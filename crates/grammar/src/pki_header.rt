@@ -7,7 +7,7 @@ use crate::parts::{Each, field, found_span, sequence_field, typed_field, whole_s
 use crate::{Header, Span};
 
 // The three parts that every header has.
-#[derive(Drop)]
+#[derive(Clone, Copy)]
 pub struct Names {
     pub cur: Cursor,
     pub version: u32,
@@ -16,7 +16,7 @@ pub struct Names {
 }
 
 // The optional parts [0] to [3].
-#[derive(Drop)]
+#[derive(Clone, Copy)]
 pub struct Options {
     pub cur: Cursor,
     pub message_time: Span,
@@ -26,7 +26,7 @@ pub struct Options {
 }
 
 // The optional parts [4] to [8].
-#[derive(Drop)]
+#[derive(Clone, Copy)]
 pub struct Ids {
     pub cur: Cursor,
     pub transaction_id: Span,
@@ -36,7 +36,7 @@ pub struct Ids {
     pub general_info: Span,
 }
 
-#[derive(Drop)]
+#[derive(Clone, Copy)]
 pub struct HeaderRead {
     pub cur: Cursor,
     pub header: Header,

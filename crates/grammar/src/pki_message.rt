@@ -10,7 +10,7 @@ use crate::pki_header::read_header;
 use der::Offset;
 
 // Whether the grammar is met, where reading by it stopped (at its fault, by rule 5, where it is not met), and what was found up to there.
-#[derive(Drop)]
+#[derive(Clone, Copy)]
 pub struct MessageRead {
     pub met: bool,
     pub at: Offset,

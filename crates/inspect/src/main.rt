@@ -3,6 +3,8 @@
 // Where standard input cannot be read, it prints nothing but a line on standard error, and where standard output cannot be
 // written, such a line too. The kit has no exit status: the program ends with 0 in these cases as well. A read or a write
 // that a signal interrupts counts as one that failed.
+#![tactic(auto)]
+
 ghost use Rattle.io.specs.Counts.{IsPrefixLen};
 
 use der::Offset;
@@ -11,7 +13,7 @@ use libc::{STDERR_FILENO, STDIN_FILENO, STDOUT_FILENO};
 use message::Reading;
 
 // What was read: `len` bytes, all there are or as many as there is room for, or not `ok`.
-#[derive(Drop)]
+#[derive(Clone, Copy)]
 struct Input {
     len: usize,
     ok: bool,

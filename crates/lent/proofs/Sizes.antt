@@ -5,7 +5,7 @@ use mathlib.Core.Bool.{Bool, true, false, ◌&&◌}
 use mathlib.Core.Option.{Option, none, some}
 use mathlib.Core.Path.{◌≡◌, refl, sym, ◌∙◌, ap, subst}
 use native.Mathlib.Omega.{arith}
-use borrow.Author.Tests.{ltb-true, eqb-true, ne_eqb, not_false}
+use borrow.Author.Tests.{ltb-true, eqb-true, ne_eqb, not-false}
 use lib.ListN.{length, replicate, length-replicate}
 use lib.Dec.{eqb, leb, ltb}
 use Rattle.der.proofs.Auto.{and_left, and_right}
@@ -81,7 +81,7 @@ late false false false rest h = (refl, refl)
 
 pub sixteen : (o : Option (List ℕ)) → not_sixteen o ≡ false → length (bytes_of o) ≡ 16
 sixteen none e = true_false e
-sixteen (some b) e = eqb-true _ _ (not_false _ e)
+sixteen (some b) e = eqb-true _ _ (not-false _ e)
 
 -- ## Rows of the table
 

@@ -1,4 +1,6 @@
 // Reads a message: every part that was found, or the refusal; and hands its parts back as parts of the caller's own bytes.
+#![tactic(auto)]
+
 ghost use Rattle.std.specs.Prelude.{◌≡◌};
 ghost use Rattle.grammar.specs.Span.{part_of};
 ghost use Rattle.message.specs.Read.{bad_length, broken_at, lowest, reading_of, protected_length};
@@ -12,14 +14,14 @@ use grammar::{Message, part_of};
 pub const MAX_MESSAGE: usize = 16384;
 
 // Refusal 1 or 2; of 2 the first fault's offset and the lowest rule broken there (1 to 4 are DER's, 5 the grammar's).
-#[derive(Drop)]
+#[derive(Clone, Copy)]
 pub struct ReadFault {
     pub number: u8,
     pub at: Offset,
     pub rule: u8,
 }
 
-#[derive(Drop)]
+#[derive(Clone, Copy)]
 pub enum Reading {
     Clean(Message),
     Refused(ReadFault),

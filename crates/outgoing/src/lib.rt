@@ -1,4 +1,6 @@
 // The messages that the ends give to be sent (01's orders), each with all it carries.
+#![tactic(auto)]
+
 ghost use Rattle.std.specs.Prelude.{◌≡◌};
 ghost use Rattle.protocol.specs.Outgoing.{no_contents, with_status, with_hash, with_failure, with_number, silent, request_out, answer_out, response_out, cert_conf_out, pki_conf_out, error_out};
 

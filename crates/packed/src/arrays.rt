@@ -5,14 +5,14 @@ ghost use Rattle.packed.specs.Arrays.{unpack16, unpack32};
 use crate::bytes::{get_16, get_32};
 
 // 16 bytes. Where `ok` is false there were not as many, and these are zero.
-#[derive(Drop)]
+#[derive(Clone, Copy)]
 pub struct Unpacked16 {
     pub ok: bool,
     pub bytes: [u8; 16],
 }
 
 // 32 bytes, likewise.
-#[derive(Drop)]
+#[derive(Clone, Copy)]
 pub struct Unpacked32 {
     pub ok: bool,
     pub bytes: [u8; 32],

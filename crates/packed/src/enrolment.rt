@@ -10,7 +10,7 @@ use protocol::{Enrolment, EnrolmentState, Hash, Nonce, TransactionId};
 pub const ENROLMENT_BYTES: usize = places::ENROLMENT_END;
 
 // An enrolment from bytes. Where `ok` is false there was none, and the enrolment is all zeros, at Failed.
-#[derive(Drop)]
+#[derive(Clone, Copy)]
 pub struct UnpackedEnrolment {
     pub ok: bool,
     pub enrolment: Enrolment,

@@ -11,7 +11,7 @@ use protocol::{FailureInfo, Hash, Nonce, Outgoing, OutgoingContents, Transaction
 pub const OUTGOING_BYTES: usize = places::OUTGOING_END;
 
 // A message to be sent, from bytes. Where `ok` is false there was none, and it is what zeros say.
-#[derive(Drop)]
+#[derive(Clone, Copy)]
 pub struct UnpackedOutgoing {
     pub ok: bool,
     pub outgoing: Outgoing,

@@ -16,7 +16,7 @@ pub const TRANSACTION_BYTES: usize = places::TRANSACTION_END;
 pub const TABLE_BYTES: usize = TransactionTable::CAPACITY * TRANSACTION_BYTES;
 
 // A table from bytes. Where `ok` is false there was none, and the table is the empty one.
-#[derive(Drop)]
+#[derive(Clone, Copy)]
 pub struct UnpackedTable {
     pub ok: bool,
     pub table: TransactionTable,

@@ -1,4 +1,6 @@
 // The parts of a message that the steps compare or keep: ids, nonces and hashes.
+#![tactic(auto)]
+
 ghost use Rattle.std.specs.Prelude.{◌≡◌};
 ghost use Rattle.protocol.specs.Bytes.{same_bytes, same_id, is_id, is_nonce};
 ghost use Rattle.grammar.specs.Span.{part_of};

@@ -196,7 +196,7 @@ module _
     sent-cases y s (inr t) = sent-more e₂ t
 
     drawn-cases : (k : ℕ) (y : BoardEnrolment) → ((x : BoardEnrolment) × At w.enrolments k x × (x.enrolment.id ≡ y.enrolment.id)) ⊎ ((dr ≡ some y.enrolment.id) × (k ≡ length w.enrolments)) → Some (λ f. f.drawn ≡ some y.enrolment.id) (e₂ ∷ w.past)
-    drawn-cases k y (inl (x, h, p)) = inr (rw (← p) (v.drawn k x h))
+    drawn-cases k y (inl (x, h, p)) = inr (subst (λ (i : TransactionId). Some (λ f. f.drawn ≡ some i) w.past) p (v.drawn k x h))
     drawn-cases k y (inr g) = inl g.0
 
     distinct_cases : (j k : ℕ) (x y : BoardEnrolment) → x.enrolment.id ≡ y.enrolment.id

@@ -59,16 +59,16 @@ end_entity_by : (d : EndEntityInput) (bytes : List ℕ) (m : Fields) → ReadsAs
 unfolding end_entity_message end_entity_read
 end_entity_by d bytes m r x = rw (r.reads, r.fields)
 
-step_by : (w : World) (c : Call) (m : Fields) → ReadsCall c m → step w c ≡ step_by w c m
+step_by_lem : (w : World) (c : Call) (m : Fields) → ReadsCall c m → step w c ≡ step_by w c m
 unfolding step
-step_by w (Start b k i n) m r = refl
-step_by w (ToRegistrar bytes d) m r = ap (registrar_did w (ToRegistrar bytes d) none) (registrar_by w.table d bytes m r)
-step_by w (ToEndEntity k bytes d) m r = ap (enrolment_did w (ToEndEntity k bytes d) k (get_elem? w.enrolments k)) (λ i x. end_entity_by d bytes m r x i)
-step_by w (Issue i h n) m r = refl
-step_by w (Refuse i n) m r = refl
-step_by w (Lapse i) m r = refl
-step_by w (Close i) m r = refl
-step_by w (TimeOut k) m r = refl
+step_by_lem w (Start b k i n) m r = refl
+step_by_lem w (ToRegistrar bytes d) m r = ap (registrar_did w (ToRegistrar bytes d) none) (registrar_by w.table d bytes m r)
+step_by_lem w (ToEndEntity k bytes d) m r = ap (enrolment_did w (ToEndEntity k bytes d) k (get_elem? w.enrolments k)) (λ i x. end_entity_by d bytes m r x i)
+step_by_lem w (Issue i h n) m r = refl
+step_by_lem w (Refuse i n) m r = refl
+step_by_lem w (Lapse i) m r = refl
+step_by_lem w (Close i) m r = refl
+step_by_lem w (TimeOut k) m r = refl
 
 pub record ReadCall : Type 0 where
   pub call : Call
@@ -86,7 +86,7 @@ run_by w (c ∷ cs) = run_by (step_by w c.call c.fields) cs
 pub run_by_lem : (cs : List ReadCall) (w : World) → after w (calls_of cs) ≡ run_by w cs
 unfolding after
 run_by_lem [] w = refl
-run_by_lem (c ∷ cs) w = ap (λ (v : World). after v (calls_of cs)) (step_by w c.call c.fields c.reads) ∙ run_by_lem cs (step_by w c.call c.fields)
+run_by_lem (c ∷ cs) w = ap (λ (v : World). after v (calls_of cs)) (step_by_lem w c.call c.fields c.reads) ∙ run_by_lem cs (step_by w c.call c.fields)
 
 -- ## The premise on verdicts, over fields
 

@@ -1,4 +1,6 @@
 // The types that the registrar (01's desk) and the end entities (01's board ends) share.
+#![tactic(auto)]
+
 ghost use Rattle.std.specs.Prelude.{◌≡◌};
 ghost use Rattle.protocol.specs.Bytes.{no_id, no_nonce, no_hash, nonce_from};
 ghost use Rattle.protocol.specs.Table.{free_transaction, empty_table};
@@ -9,33 +11,33 @@ use message::ReadFault;
 pub mod kinds;
 
 // A board's number.
-#[derive(Drop)]
+#[derive(Clone, Copy)]
 pub struct Board(pub u16);
 
 // A place in the transaction table (01's record place).
-#[derive(Drop)]
+#[derive(Clone, Copy)]
 pub struct Slot(pub usize);
 
 // The bytes of a transactionID.
-#[derive(Drop)]
+#[derive(Clone, Copy)]
 pub struct TransactionId {
     pub bytes: [u8; TransactionTable::ID_BYTES],
 }
 
 // A senderNonce or a recipNonce, of a message that came or of one to be sent.
-#[derive(Drop)]
+#[derive(Clone, Copy)]
 pub struct Nonce {
     pub bytes: [u8; 16],
 }
 
 // The 16 bytes that the host draws for a nonce of our own.
-#[derive(Drop)]
+#[derive(Clone, Copy)]
 pub struct FreshNonce {
     pub bytes: [u8; 16],
 }
 
 // The hash of a certificate, as the host works it out.
-#[derive(Drop)]
+#[derive(Clone, Copy)]
 pub struct Hash {
     pub bytes: [u8; 32],
 }
@@ -74,14 +76,14 @@ impl FreshNonce {
 }
 
 // The protection of a message (01's verdict): bad, or good with the board whose key checked.
-#[derive(Drop)]
+#[derive(Clone, Copy)]
 pub enum Verdict {
     Bad,
     Good(Board),
 }
 
 // What the host hands to the registrar with a message: its verdict and a fresh nonce.
-#[derive(Drop)]
+#[derive(Clone, Copy)]
 pub struct RegistrarInput {
     pub verdict: Verdict,
     pub nonce: FreshNonce,
@@ -89,7 +91,7 @@ pub struct RegistrarInput {
 
 // What the host hands to an end entity with a message: whether the registrar's key checked, whether the certificate
 // is accepted, its hash, and a fresh nonce.
-#[derive(Drop)]
+#[derive(Clone, Copy)]
 pub struct EndEntityInput {
     pub good: bool,
     pub accept: bool,
@@ -98,7 +100,7 @@ pub struct EndEntityInput {
 }
 
 // The registrar's states of a transaction, under 01's names. Free: the slot holds none.
-#[derive(Drop)]
+#[derive(Clone, Copy)]
 pub enum TransactionState {
     Free,
     Asked,
@@ -111,7 +113,7 @@ pub enum TransactionState {
 
 // A transaction at the registrar (01's record in the book): `taken` is the last board nonce taken, `sent` the last
 // response nonce sent. What is not set is zero.
-#[derive(Drop)]
+#[derive(Clone, Copy)]
 pub struct Transaction {
     pub id: TransactionId,
     pub board: Board,
@@ -140,7 +142,7 @@ impl Transaction {
 }
 
 // The registrar's table (01's book). It owns the limits and the empty beginning.
-#[derive(Drop)]
+#[derive(Clone, Copy)]
 pub struct TransactionTable {
     pub transactions: [Transaction; TransactionTable::CAPACITY],
 }
@@ -164,7 +166,7 @@ impl TransactionTable {
 }
 
 // An end entity's states of an enrolment, under 01's names.
-#[derive(Drop)]
+#[derive(Clone, Copy)]
 pub enum EnrolmentState {
     Asked,
     Confirming,
@@ -177,7 +179,7 @@ pub enum EnrolmentState {
 
 // An enrolment at an end entity (01's board record): `last` is the last nonce it sent, `taken` the senderNonce of the
 // response that its certConf answers. What is not set is zero.
-#[derive(Drop)]
+#[derive(Clone, Copy)]
 pub struct Enrolment {
     pub id: TransactionId,
     pub kind: u8,
@@ -204,14 +206,14 @@ impl Enrolment {
 }
 
 // A PKIFailureInfo bit, or none. Bit 0 is badAlg, so none is a case of its own.
-#[derive(Drop)]
+#[derive(Clone, Copy)]
 pub enum FailureInfo {
     NoBit,
     Bit(u8),
 }
 
 // What only some kinds carry: a status and a certReqId where their flags say so, a hash in a certConf, a bit in an error.
-#[derive(Drop)]
+#[derive(Clone, Copy)]
 pub struct OutgoingContents {
     pub has_status: bool,
     pub status: u32,
@@ -222,7 +224,7 @@ pub struct OutgoingContents {
 }
 
 // A message to be sent (01's order). The recipNonce is there where its flag says so.
-#[derive(Drop)]
+#[derive(Clone, Copy)]
 pub struct Outgoing {
     pub kind: u8,
     pub id: TransactionId,
@@ -233,7 +235,7 @@ pub struct Outgoing {
 }
 
 // How a call ended: done; the same answer given again, with no change; or refused, with its number and bit.
-#[derive(Drop)]
+#[derive(Clone, Copy)]
 pub enum Outcome {
     Done,
     Again,
@@ -242,7 +244,7 @@ pub enum Outcome {
 
 // A registrar call's answer: how it ended, the reader's fault where the message does not read (else zeros), the slot it was
 // about (0 where it was refused), what is to be sent, and the next table.
-#[derive(Drop)]
+#[derive(Clone, Copy)]
 pub struct RegistrarAnswer {
     pub outcome: Outcome,
     pub fault: ReadFault,
@@ -254,7 +256,7 @@ pub struct RegistrarAnswer {
 
 // An end entity call's answer: how it ended, the reader's fault where the message does not read (else zeros), what is to be
 // sent, and the next enrolment.
-#[derive(Drop)]
+#[derive(Clone, Copy)]
 pub struct EndEntityAnswer {
     pub outcome: Outcome,
     pub fault: ReadFault,

@@ -1,4 +1,6 @@
 // Messages written in DER: an order and given header fields into a lent buffer.
+#![tactic(auto)]
+
 mod body;
 mod element;
 mod header;
@@ -24,7 +26,7 @@ use message::MAX_MESSAGE;
 use protocol::Outgoing;
 
 // So many bytes are written, or the call is refused by this number.
-#[derive(Drop)]
+#[derive(Clone, Copy)]
 pub enum Written {
     Bytes(usize),
     Refused(u8),
