@@ -1,4 +1,4 @@
-// The static library for the host: functions over numbers and byte slices. Every one is total, whatever it is handed.
+// The functions for the host, over numbers and byte slices; `duskstall_c` exports them. Every one is total, whatever it is handed.
 #![tactic(auto)]
 
 mod boundary;
@@ -20,8 +20,7 @@ use packed::table::TABLE_BYTES;
 
 // Whether all of `bytes` is whole DER elements, at most 16 deep. 0: yes; else the first fault's offset times 8 plus its rule;
 // 7, which is no rule, where there are more than 4,294,967,295 bytes.
-#[unsafe(no_mangle)]
-pub extern "C" fn duskstall_check(bytes: &[u8]) -> u64
+pub fn duskstall_check(bytes: &[u8]) -> u64
     ensures { result ≡ check_answer bytes.now }
 {
     check_number(bytes)
@@ -29,8 +28,7 @@ pub extern "C" fn duskstall_check(bytes: &[u8]) -> u64
 
 // Reads `message`. 0: it is clean, and `fields` says where its parts are; 1 or 2: it is refused, and of 2 `fields` has the
 // offset and the rule; 255: `fields` has no room, and stays as it was.
-#[unsafe(no_mangle)]
-pub extern "C" fn duskstall_read(message: &[u8], fields: &mut [u64]) -> u64
+pub fn duskstall_read(message: &[u8], fields: &mut [u64]) -> u64
     ensures { (result ≡ read_answer message.now fields.old) × (fields.new ≡ read_fields message.now fields.old) }
 {
     read_into(message, fields)
@@ -38,8 +36,7 @@ pub extern "C" fn duskstall_read(message: &[u8], fields: &mut [u64]) -> u64
 
 // The sizes that the calls ask for, so that a host can hold its header to the library: 0 a table, 1 an enrolment, 2 a registrar's answer, 3 an end
 // entity's, 4 how many numbers a reading has, 5 the longest message. 0 for any other number.
-#[unsafe(no_mangle)]
-pub extern "C" fn duskstall_size(what: u8) -> u64
+pub fn duskstall_size(what: u8) -> u64
     ensures { result ≡ lent_size what }
 {
     if what == 0 {

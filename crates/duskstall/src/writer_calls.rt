@@ -25,8 +25,7 @@ fn written_number(w: Written) -> u64
 
 // Writes the message that `outgoing` holds, as an answer hands it out, with the parts of `source` that `given` names, as the first bytes of
 // `buffer`. Answers its size; or, in the high 32 bits, why nothing is changed: 252 for a length of `outgoing` or `given`, else the refusal.
-#[unsafe(no_mangle)]
-pub extern "C" fn duskstall_write(
+pub fn duskstall_write(
     outgoing: &[u8],
     version: u32,
     given: &[u64],
