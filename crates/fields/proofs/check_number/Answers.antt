@@ -1,0 +1,31 @@
+use Rattle.der.proofs.Auto.{tests, told}
+use native.Mathlib.Omega.{arith}
+use Rattle.der.specs.Element.{check}
+use Rattle.der.proofs.ElementLaws.{fault_in}
+use Rattle.fields.specs.Fields.{check_answer}
+use Rattle.fields.proofs.check_number.Goals as goal
+
+pub returns-then-bytes-gt4294967295 : goal.returns-then-bytes-gt4294967295
+unfolding check_answer check
+returns-then-bytes-gt4294967295 c =
+    search tests
+
+pub overflow_mul-result : goal.overflow_mul-result
+unfolding check_answer check
+overflow_mul-result c =
+    omega (arith, fault_in _ 0 c.args.bytes.now (told c.check_elements-c.ensures c.c-1.given.1))
+
+pub overflow_add-result : goal.overflow_add-result
+unfolding check_answer check
+overflow_add-result c =
+    omega (arith, fault_in _ 0 c.args.bytes.now (told c.check_elements-c.ensures c.c-1.given.1))
+
+pub returns-in-Sound : goal.returns-in-Sound
+unfolding check_answer check
+returns-in-Sound c =
+    search (tests, told c.check_elements-c.ensures c.enum_told-1.given.1)
+
+pub returns-in-Fault : goal.returns-in-Fault
+unfolding check_answer check
+returns-in-Fault c =
+    search (tests, c.widened.ensures, told c.check_elements-c.ensures c.c-1.given.1)

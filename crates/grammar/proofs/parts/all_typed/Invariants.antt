@@ -1,0 +1,15 @@
+-- The elements passed are read, and those to come decide; each one moves the cursor on.
+use Rattle.grammar.specs.declared.cursor.Cursor.{Cursor}
+use Rattle.grammar.specs.Cursor.{left_at}
+use Rattle.grammar.specs.Parts.{typed_of}
+use Rattle.grammar.proofs.CursorLaws.{Left}
+use Rattle.grammar.proofs.PartsLaws.{moved_typed}
+use Rattle.grammar.proofs.parts.all_typed.Given as goal
+
+abbrev pub invariant-loop-k : goal.invariant-loop-k
+invariant-loop-k l =
+    Left (λ (c : Cursor). c) (typed_of l.m) (moved_typed l.m) l.old.k l.k
+
+abbrev pub decreases-loop-k : goal.decreases-loop-k
+decreases-loop-k l =
+    left_at l.k

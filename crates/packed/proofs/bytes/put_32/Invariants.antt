@@ -1,0 +1,12 @@
+-- The first `i` bytes of the array are in their places.
+use Prim.Native.Nat.{◌-◌}
+use Rattle.packed.proofs.Copies.{Put}
+use Rattle.packed.proofs.bytes.put_32.Given as goal
+
+abbrev pub invariant-loop-i : goal.invariant-loop-i
+invariant-loop-i l =
+    Put 32 l.at l.x l.old.bytes l.bytes l.i
+
+abbrev pub decreases-loop-i : goal.decreases-loop-i
+decreases-loop-i l =
+    32 - l.i

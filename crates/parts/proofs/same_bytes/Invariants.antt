@@ -1,0 +1,14 @@
+-- What is left to compare decides.
+use Prim.Native.Nat.{◌≤◌, ◌-◌}
+use mathlib.Core.Path.{◌≡◌}
+use lib.ListN.{length, drop}
+use Rattle.protocol.specs.Bytes.{same_bytes}
+use Rattle.parts.proofs.same_bytes.Given as goal
+
+abbrev pub invariant-loop-i : goal.invariant-loop-i
+invariant-loop-i l =
+    (l.i ≤ length l.p) × (length l.p ≡ length l.q) × (same_bytes l.p l.q ≡ same_bytes (drop l.i l.p) (drop l.i l.q))
+
+abbrev pub decreases-loop-i : goal.decreases-loop-i
+decreases-loop-i l =
+    length l.p - l.i

@@ -1,0 +1,7 @@
+-- The head, then the part.
+use Rattle.writer.proofs.Puts.{around}
+use Rattle.writer.proofs.element.put_element.Goals as goal
+
+pub returns : goal.returns
+returns c =
+    around _ c.size-n.ensures c.head-a.ensures c.bytes.ensures

@@ -1,0 +1,21 @@
+-- By the size, the room, and the fit.
+use native.Mathlib.Omega.{arith}
+use Rattle.der.proofs.Auto.{told}
+use Rattle.writer.proofs.Writes.{message-size, over, short, unfit, written}
+use Rattle.writer.proofs.write.Goals as goal
+
+pub returns-then-n-gt-MAX_MESSAGE : goal.returns-then-n-gt-MAX_MESSAGE
+returns-then-n-gt-MAX_MESSAGE c =
+    over _ _ _ _ (message-size _ _ c.message_content_size.ensures c.around.ensures c.wide-n.ensures.0) c.if-n-gt-MAX_MESSAGE.true
+
+pub returns-then-buf-n : goal.returns-then-buf-n
+returns-then-buf-n c =
+    short _ _ _ _ (message-size _ _ c.message_content_size.ensures c.around.ensures c.wide-n.ensures.0) (omega arith) (omega arith)
+
+pub returns-then-all_fit : goal.returns-then-all_fit
+returns-then-all_fit c =
+    written _ _ _ _ (message-size _ _ c.message_content_size.ensures c.around.ensures c.wide-n.ensures.0) (omega arith) (omega arith) (told c.all_fit.ensures c.if-all_fit.true) c.put_message.ensures
+
+pub returns : goal.returns
+returns c =
+    unfit _ _ _ _ (message-size _ _ c.message_content_size.ensures c.around.ensures c.wide-n.ensures.0) (omega arith) (omega arith) (told c.all_fit.ensures c.if-all_fit.false)
