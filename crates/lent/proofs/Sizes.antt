@@ -54,13 +54,13 @@ in_back n [] e = refl
 in_back n (b ∷ bs) e =
     cases (λ f. failure_of (failure_number f) ≡ f) (eqb n b.number) b.bit (bit_in n bs) (λ _. small-back b.bit (and_left (small b.bit) (all_small bs) e)) (λ _. in_back n bs (and_right (small b.bit) (all_small bs) e))
 
-all_small : (c : Bool) → all_small (bits c) ≡ true
-all_small true = refl
-all_small false = refl
+all_small_lem : (c : Bool) → all_small (bits c) ≡ true
+all_small_lem true = refl
+all_small_lem false = refl
 
 pub bit-back : (n : ℕ) (c : Bool) → failure_of (failure_number (bit_of n c)) ≡ bit_of n c
 unfolding bit_of
-bit-back n c = in_back n (bits c) (all_small c)
+bit-back n c = in_back n (bits c) (all_small_lem c)
 
 pub silent_sized : OutgoingSized silent
 unfolding silent
