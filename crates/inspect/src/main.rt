@@ -1,16 +1,16 @@
 // Reads a message from standard input and prints where its parts are, start and length, or by which number it is refused.
 //
 // Where standard input cannot be read, it prints nothing but a line on standard error, and where standard output cannot be
-// written, such a line too. The kit has no exit status: the program ends with 0 in these cases as well. A read or a write
-// that a signal interrupts counts as one that failed.
+// written, such a line too. The program ends with 0 in these cases as well. A read or a write that a signal interrupts counts
+// as one that failed.
 #![tactic(auto)]
 
-ghost use Rattle.io.specs.Counts.{IsPrefixLen};
+ghost use Rattle.std.specs.Prelude.{◌≡◌, ◌≤◌, length, take};
 
-use der::Offset;
 use grammar::{Message, Span};
-use libc::{STDERR_FILENO, STDIN_FILENO, STDOUT_FILENO};
 use message::Reading;
+use std::io;
+use std::io::Read;
 
 // What was read: `len` bytes, all there are or as many as there is room for, or not `ok`.
 #[derive(Clone, Copy)]
@@ -19,16 +19,16 @@ struct Input {
     ok: bool,
 }
 
-fn read_input(buf: &mut [u8]) -> Input
-    ensures { IsPrefixLen result.len buf.new }
+fn read_input(rt: &HostRuntime, buf: &mut [u8]) -> Input
+    ensures { (result.len ≤ length buf.new) × (result.len ≡ length (take result.len buf.new)) }
 {
+    let mut stdin = rt.stdin();
     let mut done = 0;
     while done < buf.len() {
-        let got = libc::read(STDIN_FILENO, &mut buf[done..]);
-        if got < 0 {
-            return Input { len: 0, ok: false };
-        }
-        let more = io::count(got, &buf[done..]);
+        let more = match stdin.read(&mut buf[done..]) {
+            Ok(n) => n,
+            Err(_) => return Input { len: 0, ok: false },
+        };
         if more == 0 {
             break;
         }
@@ -40,63 +40,44 @@ fn read_input(buf: &mut [u8]) -> Input
     }
 }
 
-// Each of these answers whether all was written.
-fn put(word: &[u8]) -> bool {
-    io::write_all(STDOUT_FILENO, word)
+fn put_span(rt: &HostRuntime, word: &str, span: Span) -> io::Result<()> {
+    println!(rt; "{word} {} {}", span.start.0, span.len)
 }
 
-fn put_number(n: usize) -> bool {
-    put(b" ") && io::print_decimal(STDOUT_FILENO, n as u64)
-}
-
-fn put_small(word: &[u8], n: u8) -> bool {
-    put(word) && put_number(n as usize) && put(b"\n")
-}
-
-fn put_span(word: &[u8], span: Span) -> bool {
-    let start = span.start;
-    put(word) && put_number(start.0) && put_number(span.len) && put(b"\n")
-}
-
-fn put_hash(m: Message) -> bool {
-    let body = m.body;
-    let entry = body.entry;
-    if body.kind == 24 {
-        if body.entries == 1 {
-            return put_span(b"hash", entry.cert_hash);
-        }
+fn put_hash(rt: &HostRuntime, m: Message) -> io::Result<()> {
+    if m.body.kind == 24 && m.body.entries == 1 {
+        return put_span(rt, "hash", m.body.entry.cert_hash);
     }
-    true
+    Ok(())
 }
 
-fn put_message(m: Message) -> bool {
-    let body = m.body;
-    put_small(b"kind", body.kind)
-        && put_span(b"header", m.header_span)
-        && put_span(b"body", m.body_span)
-        && put_span(b"protection", m.protection)
-        && put_hash(m)
+fn put_message(rt: &HostRuntime, m: Message) -> io::Result<()> {
+    println!(rt; "kind {}", m.body.kind)?;
+    put_span(rt, "header", m.header_span)?;
+    put_span(rt, "body", m.body_span)?;
+    put_span(rt, "protection", m.protection)?;
+    put_hash(rt, m)
 }
 
-fn put_reading(reading: Reading) -> bool {
+fn put_reading(rt: &HostRuntime, reading: Reading) -> io::Result<()> {
     match reading {
-        Reading::Clean(m) => put_message(m),
-        Reading::Refused(fault) => put_small(b"refused", fault.number),
+        Reading::Clean(m) => put_message(rt, m),
+        Reading::Refused(fault) => println!(rt; "refused {}", fault.number),
     }
 }
 
 // One byte more than a message may have tells a longer one; nothing after it is waited for.
 const ROOM: usize = message::MAX_MESSAGE + 1;
 
-fn main() {
+fn main(rt: HostRuntime) {
     let mut buffer = [0u8; ROOM];
-    let input = read_input(&mut buffer);
+    let input = read_input(&rt, &mut buffer);
     if !input.ok {
-        io::write_all(STDERR_FILENO, b"inspect: cannot read standard input\n");
+        let _ = eprintln!(rt; "inspect: cannot read standard input");
         return;
     }
     let reading = message::read(&buffer[..input.len]);
-    if !put_reading(reading) {
-        io::write_all(STDERR_FILENO, b"inspect: cannot write standard output\n");
+    if put_reading(&rt, reading).is_err() {
+        let _ = eprintln!(rt; "inspect: cannot write standard output");
     }
 }
