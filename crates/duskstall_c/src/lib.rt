@@ -58,7 +58,9 @@ pub extern "C" fn duskstall_registrar_message(
 ) -> u64
     ensures { Crosses result table.new answer.new (registrar_message_crossing bytes.now good board nonce.now table.old answer.old) × AllBytes table.old }
 {
-    duskstall::registrar_calls::duskstall_registrar_message(table, bytes, good, board, nonce, answer)
+    duskstall::registrar_calls::duskstall_registrar_message(
+        table, bytes, good, board, nonce, answer,
+    )
 }
 
 // issue
@@ -132,7 +134,9 @@ pub extern "C" fn duskstall_end_entity_message(
 ) -> u64
     ensures { Crosses result enrolment.new answer.new (end_entity_message_crossing bytes.now good accept hash.now nonce.now enrolment.old answer.old) }
 {
-    duskstall::end_entity_calls::duskstall_end_entity_message(enrolment, bytes, good, accept, hash, nonce, answer)
+    duskstall::end_entity_calls::duskstall_end_entity_message(
+        enrolment, bytes, good, accept, hash, nonce, answer,
+    )
 }
 
 // The host waited long enough.
