@@ -1,13 +1,14 @@
 # `make help` lists the targets. Needs rt (the Rattle kit), cargo, and for the example a C compiler.
 
 LIBRARY := target/staticlib/libduskstall.a
-CRATES := crates.txt $(shell find crates -name must-fail -prune -o \( -name '*.rt' -o -name '*.antt' \) -print)
+PROGRAM := target/bin/inspect
+CRATES := crates.txt $(shell find crates \( -name must-fail -o -name out \) -prune -o \( -name '*.rt' -o -name '*.antt' \) -print)
 
 CFLAGS := -Wall -Wextra -Wpedantic -Werror -I include
 ENROL := examples/enrol.c examples/host.c examples/show.c
 BUILT := target/examples
 
-.PHONY: help demo example test bench stack clean
+.PHONY: help demo example test bench stack library program clean
 
 help: ## this list
 	@sed -n 's/^\([a-z]*\):[^#]*## /  make \1\t/p' Makefile | expand -t 18
@@ -29,12 +30,23 @@ bench: $(LIBRARY) ## the speed of the proved reader and writer beside those in R
 stack: $(BUILT)/stack ## the stack that each function of the library uses
 	@$<
 
+library: $(LIBRARY) ## target/staticlib/libduskstall.a, for C and Rust
+
+program: $(PROGRAM) ## target/bin/inspect, which prints where a message's parts are
+
 clean: ## removes all that was built, the proofs too
-	rm -rf target host/target
+	rm -rf target host/target crates/*/out
 
 # The proofs of the library's crates, if they are not there or not of these files, and then the library.
 $(LIBRARY): $(CRATES)
-	rt staticlib duskstall
+	cd crates/duskstall_c && rt lib
+	mkdir -p $(@D)
+	cp crates/duskstall_c/out/libduskstall_c.a $@
+
+$(PROGRAM): $(CRATES)
+	cd crates/inspect && rt run <stdin
+	mkdir -p $(@D)
+	cp crates/inspect/out/inspect $@
 
 $(BUILT):
 	mkdir -p $@

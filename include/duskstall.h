@@ -2,7 +2,7 @@
  * Duskstall: a CMP core (RFC 9810) for C99 and C++11. A reader and a writer of messages, the calls of a registrar and
  * the calls of an end entity, each proved to answer as is said here, whatever bytes it is given.
  *
- * Link with libduskstall.a, which `rt staticlib duskstall` makes for x86-64 Linux. It needs memcpy and memset, and
+ * Link with libduskstall.a, which `make library` makes for x86-64 Linux. It needs memcpy and memset, and
  * nothing else: no heap, no clock, no locks, no variables of its own.
  *
  * WHAT IT DOES

@@ -59,6 +59,8 @@ def declared(paths):
             m = SIGNATURE.match(line)
             if m:
                 names[m.group(1)].add(path)
+                if MIXFIX.fullmatch(m.group(1)):
+                    names[m.group(1).strip("◌")].add(path)
     return names
 
 
@@ -106,7 +108,7 @@ def table():
         if "-" in n and m in taken:
             new[n] = m + "_lem"
     # so does one that the kit's script has spelled like a definition already
-    met = {m for n, m in new.items() if n in defs}
+    met = {m for n, m in new.items() if "-" not in n}
     for n in declared(lemmas):
         if n in met and n not in defs:
             LEMMA_FIRST[n] = n + "_lem"
@@ -127,9 +129,12 @@ def token(name):
 
 
 TOKEN = re.compile(WORD)
+# a word between two arguments
+MIXFIX = re.compile(r"◌([a-z]+[A-Z][A-Za-z]*)◌")
 
 
 def turn_code(text, new):
+    text = MIXFIX.sub(lambda m: "◌" + ("_".join(snake(m.group(1)))) + "◌", text)
     return TOKEN.sub(lambda m: new.get(m.group(0), m.group(0)), text)
 
 
@@ -202,6 +207,7 @@ def turn_edit(text, new):
 
 def main():
     check = "--check" in sys.argv
+    own = os.listdir("crates")
     new, local, names = table()
     # names that fall together
     texts = {p: open(p, encoding="utf-8").read() for p in files("crates/*/specs/*.antt", "crates/*/proofs/**/*.antt", "crates/*/src/*.rt")}
@@ -220,7 +226,12 @@ def main():
     if check:
         return
     for p, t in texts.items():
-        table_here = dict(new)
+        # a name of the kit's that a file imports stays
+        kits = set()
+        for m in re.finditer(r"^(?:ghost )?use (\S+?)\.\{(.*)\};?$", t, re.M):
+            if not m.group(1).startswith(tuple(f"Rattle.{c}." for c in own)):
+                kits |= {x.strip().split(" as ")[0] for x in m.group(2).split(",")}
+        table_here = {n: m for n, m in new.items() if n not in kits}
         mark = "//" if p.endswith(".rt") else "--"
         if "/src/" not in p:
             table_here.update(local)

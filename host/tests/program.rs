@@ -1,5 +1,5 @@
 //! The program `inspect`, run on message after message: what it prints is what the independent reader finds, in the lines
-//! of "One message byte for byte". `rt check inspect` builds it.
+//! of "One message byte for byte". `make program` builds it.
 
 use duskstall_host::independent;
 use duskstall_host::testing::corpus::corpus;
@@ -19,7 +19,7 @@ fn begun(input: impl Into<Stdio>, output: impl Into<Stdio>) -> Child {
         .stdout(output)
         .stderr(Stdio::piped())
         .spawn()
-        .expect("the program is there, by `rt check inspect`")
+        .expect("the program is there, by `make program`")
 }
 
 /// What it printed, and what it said on standard error.
