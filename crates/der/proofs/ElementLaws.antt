@@ -3,6 +3,7 @@ use Prim.Native.Nat.{ℕ, zero, suc, ◌+◌, ◌-◌, ◌<◌, ◌≤◌}
 use mathlib.Core.Path.{◌≡◌, refl, sym, ◌∙◌, ap, subst}
 use mathlib.Core.List.{List, [], ◌∷◌}
 use mathlib.Core.Bool.{Bool, true, false, not, ◌&&◌}
+use mathlib.Core.Logic.{◌⊎◌, ⊎_elim, inl, inr}
 use native.Mathlib.Nat.{lt_irrefl, add-zero, add_assoc, add-sub_cancel_left, sub-zero, zero-sub, suc-sub-suc}
 use native.Mathlib.Numerals.{sub-one}
 use native.Mathlib.Omega.{arith}
@@ -215,3 +216,13 @@ content_in_lem (suc d) b s = run_in (content_at d) (content_in_lem d) d 0 b s
 pub fault_in : (d b : ℕ) (s : List ℕ) {at : Offset} {rule : ℕ} → check_at d b s ≡ Fault at rule → (b ≤ at.0) × (at.0 < b + length s)
 unfolding check_at FaultIn
 fault_in d b s e = subst (FaultIn b (length s)) e (run_in (content_at d) (content_in_lem d) d 0 b s)
+
+-- ---- the loop over a run of elements
+
+-- the loop stands at an element, and what is left decides; or it is at a fault's number
+abbrev pub Stands : List ℕ → ℕ → ℕ → ℕ → Type 0
+Stands m from depth i =
+    ((i ≤ length m) × (check_at depth from (drop from m) ≡ check_at depth (0 + i) (drop i m))) ⊎ ((length m < i) × (i ≡ answer_of (length m) (check_at depth from (drop from m))))
+
+pub standing : (m : List ℕ) (from depth i : ℕ) → i < length m → Stands m from depth i → check_at depth from (drop from m) ≡ check_at depth (0 + i) (drop i m)
+standing m from depth i here w = ⊎_elim (λ v. v.1) (λ v. absurd (omega (arith, v.0, here))) w

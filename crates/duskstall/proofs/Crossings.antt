@@ -1,15 +1,13 @@
 -- Calls over lent bytes: a fault of the bytes ends the call with nothing changed; else the answer of the call goes back.
 use Prim.Native.Nat.{ℕ}
 use mathlib.Core.List.{List}
-use mathlib.Core.Bool.{Bool, cond}
 use mathlib.Core.Path.{◌≡◌, refl, sym, ◌∙◌}
 use borrow.Author.Tests.{eq-eqb, ne_eqb}
-use lib.Dec.{eqb}
 use Rattle.protocol.specs.declared.EndEntityAnswer.{EndEntityAnswer}
 use Rattle.packed.specs.Enrolment.{pack_enrolment_in}
 use Rattle.packed.specs.Bytes.{pack_at}
 use Rattle.packed.specs.Answer.{outcome_number, end_entity_answer_bytes, pack_end_entity_answer}
-use Rattle.duskstall.specs.Boundary.{Crossing, Crosses, untouched, unless_faulty, start_written}
+use Rattle.duskstall.specs.Boundary.{Crossing, Crosses, unless_faulty, start_written}
 
 -- a fault of the bytes, as it was worked out and as the definition has it
 module _ (k : ℕ) {f : ℕ} (e : k ≡ f) (s b : List ℕ) (x : Crossing) where

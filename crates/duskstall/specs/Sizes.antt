@@ -1,5 +1,5 @@
 -- The sizes that a host is told, so that it can hold its header to the library.
-use Rattle.std.specs.Prelude.{ℕ, ◌+◌, cond, eqb}
+use Rattle.std.specs.Prelude.{ℕ, cond, eqb}
 use Rattle.message.specs.Read.{max_message}
 use Rattle.fields.specs.Fields.{field_count}
 use Rattle.given.specs.Numbers.{given_count}

@@ -18,7 +18,7 @@ use Rattle.encoding.specs.Given.{Given}
 use Rattle.encoding.specs.Message.{recip_nonce, names_bytes, options_bytes, ids_bytes, header_bytes, failure_bits, status_bytes, requests_bytes, key_pair_bytes, responses_bytes, confirmations_bytes, error_bytes, content_bytes, body_bytes, encode}
 use Rattle.encoding.specs.Fits.{is_given, is_absent, request_message_fits, certificate_fits, request_fits, response_fits}
 use Rattle.encoding.specs.ReadBack.{Bytes, BytesIf, GivenTyped}
-use Rattle.encoding.specs.Parts.{Parts, none, leaf, number, node, whole, field_parts, wrapped_parts, header_parts, bit_parts, status_parts, key_pair_parts, responses_parts, confirmations_parts, error_parts, content_parts, message_parts, TheOnlyDer, WrittenSays}
+use Rattle.encoding.specs.Parts.{Parts, none, leaf, node, whole, field_parts, wrapped_parts, header_parts, bit_parts, status_parts, key_pair_parts, responses_parts, confirmations_parts, error_parts, content_parts, message_parts, TheOnlyDer, WrittenSays}
 use Rattle.encoding.proofs.Sound.{Whole-element, given-element}
 use Rattle.encoding.proofs.Der.{If, DerFits}
 use Rattle.encoding.proofs.GivenFits.{der_fits, request_sound}

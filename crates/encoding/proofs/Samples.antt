@@ -1,5 +1,5 @@
 -- The samples are right, by computing them.
-use mathlib.Core.Path.{◌≡◌, refl}
+use mathlib.Core.Path.{refl}
 use Rattle.der.specs.Head.{tag_ok, inside, length81, length82, length_of, head_of, head_bytes}
 use Rattle.der.specs.Content.{boolean_ok, integer_ok, bit_string_ok, arcs_ok, oid_ok, content_ok}
 use Rattle.der.specs.Element.{form_ok, judge, element_of, each_element, content_at, check_at, fills, is_element}

@@ -24,7 +24,7 @@ use Rattle.protocol.specs.Outgoing.{no_contents, with_status, with_hash, with_fa
 use Rattle.protocol.specs.Agreement.{HasPart, Carries, IssuedReading}
 use Rattle.protocol.proofs.Carried.{part_there, part-absent}
 use Rattle.encoding.specs.Given.{Given}
-use Rattle.encoding.specs.Message.{recip_nonce, encode}
+use Rattle.encoding.specs.Message.{encode}
 use Rattle.encoding.specs.Fits.{blank}
 use Rattle.encoding.specs.Write.{refusal_of}
 use Rattle.encoding.specs.ReadBack.{GivenTyped, OrderTyped, contents_read, order_of, GivenBack, ReadsBack, WrittenReadsBack, WrittenIsIssued}

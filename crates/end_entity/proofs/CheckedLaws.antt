@@ -1,7 +1,7 @@
 -- What becomes of a message that reads, by the number of the row that refuses it; and the nonce that it is answered by.
 use Prim.Native.Nat.{ℕ}
 use mathlib.Core.List.{List}
-use mathlib.Core.Bool.{true, false, not}
+use mathlib.Core.Bool.{true, false}
 use mathlib.Core.Path.{◌≡◌, refl, ◌∙◌}
 use borrow.Author.Tests.{ne_eqb}
 use Rattle.grammar.specs.declared.Message.{Message}

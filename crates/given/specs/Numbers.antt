@@ -1,5 +1,5 @@
 -- The spans as numbers of a lent array: two for each, its start and its length.
-use Rattle.std.specs.Prelude.{ℕ, ◌+◌, ◌*◌, List, Bool, cond, length, get_or, eqb}
+use Rattle.std.specs.Prelude.{ℕ, ◌+◌, ◌*◌, List, get_or}
 use Rattle.grammar.specs.declared.Span.{Span}
 use Rattle.given.specs.declared.GivenSpans.{GivenSpans}
 

@@ -9,7 +9,6 @@ use Rattle.der.proofs.HeadLaws.{cond-case}
 use Rattle.grammar.specs.declared.Body.{Body}
 use Rattle.grammar.specs.declared.cursor.Cursor.{Cursor}
 use Rattle.grammar.specs.declared.parts.Each.TheVariants.{Certificate}
-use Rattle.grammar.specs.declared.parts.Status.{Status}
 use Rattle.grammar.specs.declared.entries.Entries.{Entries}
 use Rattle.grammar.specs.declared.entries.EntryKind.{EntryKind}
 use Rattle.grammar.specs.declared.entries.EntryKind.TheVariants as of

@@ -9,7 +9,7 @@ use borrow.Author.Tests.{ltb-true, ltb-false, leb-false, eq-eqb, ne_eqb}
 use lib.ListN.{length, get_or, take, drop}
 use lib.Seq.{get_or-take, get_or-drop}
 use lib.Dec.{ltb, leb, eqb}
-use Rattle.der.specs.Head.{byte, head_of}
+use Rattle.der.specs.Head.{head_of}
 use Rattle.der.specs.Code.{packed_of}
 use Rattle.der.specs.declared.head.Head.{Head}
 use Rattle.der.specs.declared.head.Head.TheVariants.{Bad, Whole}

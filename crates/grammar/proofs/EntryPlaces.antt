@@ -7,7 +7,6 @@ use lib.Dec.{eqb}
 use Rattle.der.proofs.HeadLaws.{cond-case}
 use Rattle.grammar.specs.declared.Entry.{Entry}
 use Rattle.grammar.specs.declared.cursor.Cursor.{Cursor}
-use Rattle.grammar.specs.declared.parts.Status.{Status}
 use Rattle.grammar.specs.declared.entries.Item.{Item}
 use Rattle.grammar.specs.declared.entries.Entries.{Entries}
 use Rattle.grammar.specs.declared.entries.EntryKind.{EntryKind}

@@ -26,8 +26,7 @@ use Rattle.grammar.specs.Header.{header_of}
 use Rattle.grammar.specs.Body.{body_of}
 use Rattle.grammar.specs.Message.{start_at, message_of}
 use Rattle.grammar.proofs.CursorLaws.{untrue}
-use Rattle.grammar.proofs.Places.{Ok, Went, Took, Takes, ◌then◌, need_takes, ended, left, at_done, at_leave, Nest, nest, Placed, took_kept, done_kept, leave_kept}
-use Rattle.grammar.proofs.Places.Spot.{absent}
+use Rattle.grammar.proofs.Places.{Ok, Went, Took, Takes, ◌then◌, need_takes, ended, left, at_done, at_leave, Nest, nest}
 use Rattle.grammar.proofs.PartPlaces.{Between, no_span_lem, whole_span_lem, field_steps, sequence_field_steps}
 use Rattle.grammar.proofs.HeaderPlaces.{HeaderIn, header-takes, header_in}
 use Rattle.grammar.proofs.BodyPlaces.{BodyIn, body-takes, body_in}

@@ -6,7 +6,7 @@ use Rattle.grammar.specs.declared.parts.Each.{Each}
 use Rattle.grammar.specs.declared.parts.Each.TheVariants.{Text, Info}
 use Rattle.grammar.specs.declared.entries.EntryKind.{EntryKind}
 use Rattle.grammar.specs.Cursor.{need_of, any_of, none_of, maybe_of, rest_of, done_of, enter_of, small_integer_of}
-use Rattle.grammar.specs.Parts.{typed_of, one_of, all_by, sequence_by, sequence_of, field_of, typed_field, any_field, sequence_field, maybe_text, fail_info_of, status_of, maybe_status}
+use Rattle.grammar.specs.Parts.{typed_of, one_of, all_by, sequence_of, field_of, typed_field, any_field, sequence_field, maybe_text, fail_info_of, status_of, maybe_status}
 use Rattle.grammar.specs.Header.{name_of, names_of, options_of, ids_of, header_of}
 use Rattle.grammar.specs.Entries.{choice_of, key_pair, maybe_key_pair, entry_of, entries_of}
 use Rattle.grammar.specs.Body.{contents_of, body_tag, body_of}

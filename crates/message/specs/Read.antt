@@ -1,5 +1,5 @@
 -- Reading a message: the check of the whole as DER, and the grammar. The fault named is the lower one of the two.
-use Rattle.std.specs.Prelude.{ℕ, ◌+◌, List, Bool, true, false, cond, ◌||◌, length, ltb, eqb}
+use Rattle.std.specs.Prelude.{ℕ, ◌+◌, List, cond, ◌||◌, length, ltb, eqb}
 use Rattle.der.specs.declared.Offset.{Offset}
 use Rattle.der.specs.Element.{check}
 use Rattle.der.specs.declared.element.Check.{Check}

@@ -1,5 +1,5 @@
 -- Demand 2, "each field is found exactly where the standard puts it": what holds of a message x that was read from the bytes m.
-use Rattle.std.specs.Prelude.{ℕ, ◌+◌, ◌≤◌, ◌≡◌, List, ◌↔◌, ◌≢◌, length, take, drop}
+use Rattle.std.specs.Prelude.{ℕ, ◌+◌, ◌≤◌, ◌≡◌, List, ◌↔◌, ◌≢◌, length}
 use Rattle.std.proofs.Math.Option.{none}
 use Rattle.der.specs.Head.{head_of}
 use Rattle.der.specs.declared.head.Head.TheVariants.{Whole}

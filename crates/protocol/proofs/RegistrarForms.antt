@@ -13,7 +13,6 @@ use Rattle.protocol.specs.declared.Outgoing.{Outgoing}
 use Rattle.protocol.specs.Message.{pki_conf}
 use Rattle.protocol.specs.Table.{lookup}
 use Rattle.protocol.specs.States.{settled_by, has_sent}
-use Rattle.protocol.specs.EndEntityRows.{acknowledges}
 use Rattle.protocol.specs.Run.{World, OneBoard}
 use Rattle.protocol.specs.Agreement.{Issued}
 use Rattle.protocol.proofs.Tests.{none_some, some_some}

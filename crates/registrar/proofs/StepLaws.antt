@@ -33,7 +33,7 @@ use Rattle.protocol.specs.Table.{capacity, lookup, slot_of, free_slot, put, free
 use Rattle.protocol.specs.States.{is_granted, is_confirmed, settled_state}
 use Rattle.protocol.specs.Refusals.{pass, stop, lowest_row, head_rows, bit_of, not_sixteen}
 use Rattle.protocol.specs.RegistrarRows.{is_good, later_rows, registrar_rows}
-use Rattle.protocol.specs.Registrar.{board_named, refused_quietly, done_quietly, done_sending, settled, confirmed_at, refused_message, confirmed, confirmed_found, refused_reading, registrar_checked, registrar_fields, registrar_read, registrar_message}
+use Rattle.protocol.specs.Registrar.{board_named, refused_quietly, done_quietly, done_sending, settled, confirmed_at, refused_message, confirmed_found, refused_reading, registrar_checked, registrar_fields, registrar_read, registrar_message}
 use Rattle.protocol.proofs.Tests.{passes}
 use Rattle.protocol.specs.Promises.{Applies}
 use Rattle.protocol.proofs.Rows.{least, stops}

@@ -1,9 +1,9 @@
 -- A failure bit: the shortest BIT STRING with that bit set.
 use Prim.Native.Nat.{ℕ, zero, suc, ◌+◌, ◌-◌, ◌/◌, ◌%◌, ◌^◌, ◌<◌, ◌≤◌}
-use mathlib.Core.List.{List, [], ◌∷◌, ◌++◌}
+use mathlib.Core.List.{List, [], ◌∷◌}
 use mathlib.Core.Path.{◌≡◌, refl, sym, ◌∙◌, ap, subst}
 use native.Mathlib.Omega.{arith}
-use lib.ListN.{length, take, replicate, length-append, length-replicate}
+use lib.ListN.{length, take, length-append, length-replicate}
 use Rattle.protocol.specs.Bytes.{zeros}
 use Rattle.encoding.specs.Message.{bit_content}
 use Rattle.writer.specs.Puts.{Puts}

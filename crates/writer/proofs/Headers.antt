@@ -1,9 +1,8 @@
 -- A header's content: names, options and ids, one after the other.
 use Prim.Native.Nat.{ℕ}
 use mathlib.Core.List.{List, [], ◌++◌, append_assoc}
-use mathlib.Core.Path.{◌≡◌, refl, sym, ◌∙◌, ap, subst}
+use mathlib.Core.Path.{◌≡◌, ◌∙◌, ap, subst}
 use Rattle.protocol.specs.declared.Outgoing.{Outgoing}
-use Rattle.encoding.specs.Element.{field, wrapped, integer}
 use Rattle.encoding.specs.Given.{Given}
 use Rattle.encoding.specs.Message.{names_bytes, options_bytes, ids_bytes}
 use Rattle.writer.specs.Puts.{Puts}

@@ -1,19 +1,17 @@
 -- Laws of bytes put into a buffer.
-use Prim.Native.Nat.{ℕ, suc, ◌+◌, ◌/◌, ◌%◌, ◌-◌, ◌<◌, ◌≤◌}
+use Prim.Native.Nat.{ℕ, suc, ◌+◌, ◌/◌, ◌%◌, ◌<◌, ◌≤◌}
 use mathlib.Core.List.{List, [], ◌∷◌, ◌++◌, append-nil}
 use mathlib.Core.Path.{◌≡◌, refl, sym, ◌∙◌, ap, subst}
-use mathlib.Core.Bool.{cond}
 use native.Mathlib.Numerals.{add-one}
 use native.Mathlib.Nat.{add-zero, suc-add, add-suc, le_of_lt}
 use native.Mathlib.Omega.{arith}
 use borrow.Author.Tests.{lt-ltb, le-ltb}
-use lib.Dec.{ltb}
 use lib.ListN.{length, take, set, get_or, length-append, length-set}
 use lib.Seq.{sets, length-sets, length-take-le, take-suc, take_all}
 use Rattle.der.specs.Head.{head_bytes}
 use Rattle.encoding.specs.Element.{element}
 use Rattle.writer.specs.Puts.{Put, Puts}
-use Rattle.writer.specs.Sizes.{size16, Size}
+use Rattle.writer.specs.Sizes.{Size}
 
 -- one part after another
 sets_append : (l : List ℕ) (i : ℕ) (xs ys : List ℕ) → sets l i (xs ++ ys) ≡ sets (sets l i xs) (i + length xs) ys

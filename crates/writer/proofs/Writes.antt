@@ -1,25 +1,22 @@
 -- The call's four answers.
 use Prim.Native.Nat.{ℕ, ◌+◌, ◌<◌, ◌≤◌}
 use mathlib.Core.List.{List}
-use mathlib.Core.Bool.{Bool, true, false, cond, ◌&&◌, ◌||◌}
+use mathlib.Core.Bool.{Bool, true, false, ◌&&◌, ◌||◌}
 use mathlib.Core.Path.{◌≡◌, refl, sym, ◌∙◌, ap, subst}
 use native.Mathlib.Omega.{arith}
-use borrow.Author.Tests.{lt-ltb, le-ltb, eq-eqb, ne_eqb}
-use lib.Dec.{ltb, eqb, lit<}
+use borrow.Author.Tests.{lt-ltb, le-ltb}
+use lib.Dec.{eqb, lit<}
 use lib.ListN.{length}
-use lib.Seq.{sets}
 use Rattle.der.proofs.Auto.{and_left, and_right}
 use Rattle.message.specs.Read.{max_message}
 use Rattle.protocol.specs.declared.Outgoing.{Outgoing}
-use Rattle.encoding.specs.Element.{element}
 use Rattle.encoding.specs.Given.{Given}
-use Rattle.encoding.specs.Message.{header_bytes, body_bytes, encode}
+use Rattle.encoding.specs.Message.{encode}
 use Rattle.encoding.specs.Fits.{blank, contents_fit, order_fits, fits}
 use Rattle.encoding.specs.Write.{refusal_of}
 use Rattle.encoding.proofs.WrittenKinds.{Kind, kind_of_lem}
 use Rattle.encoding.proofs.WrittenKinds.Kind.{ir, ip, cr, cp, p10cr, kur, kup, pkiconf, error, certconf}
 use Rattle.given.specs.declared.GivenSpans.{GivenSpans}
-use Rattle.writer.specs.declared.Written.{Written}
 use Rattle.writer.specs.declared.Written.TheVariants.{Bytes, Refused}
 use Rattle.writer.specs.Puts.{Puts}
 use Rattle.writer.specs.Sizes.{size16, head_size, Size}

@@ -1,11 +1,11 @@
 -- Definitions that only follow the code: a reader of the paper need not look at them.
-use Rattle.std.specs.Prelude.{ℕ, ◌/◌, ◌%◌, List, [], ◌∷◌, ◌++◌, cond, ◌||◌, ltb, leb, eqb}
-use Rattle.std.proofs.Math.Option.{Option, none, some}
+use Rattle.std.specs.Prelude.{ℕ, List, [], ◌++◌, cond, ◌||◌, ltb, leb, eqb}
+use Rattle.std.proofs.Math.Option.{Option, none}
 use Rattle.protocol.specs.declared.FailureInfo.{FailureInfo}
 use Rattle.protocol.specs.declared.OutgoingContents.{OutgoingContents}
 use Rattle.protocol.specs.declared.Outgoing.{Outgoing}
 use Rattle.protocol.specs.Message.{cert_conf, error_kind}
-use Rattle.encoding.specs.Element.{element, field, wrapped, optional, integer}
+use Rattle.encoding.specs.Element.{element, field, optional, integer}
 use Rattle.encoding.specs.Given.{Given}
 use Rattle.encoding.specs.Message.{failure_bits, status_bytes, key_pair_bytes, confirmations_bytes, error_bytes, names_bytes, options_bytes, ids_bytes, header_bytes, body_bytes}
 

@@ -1,5 +1,5 @@
 -- Sizes in 16 bits, as the code counts them: what is longer than an element's content can be counts as the largest.
-use Rattle.std.specs.Prelude.{ℕ, ◌+◌, min, List, cond, ◌≡◌, length, ltb}
+use Rattle.std.specs.Prelude.{ℕ, min, List, cond, ◌≡◌, length, ltb}
 
 abbrev pub size16 : ℕ → ℕ
 size16 n = min n 65535

@@ -12,11 +12,11 @@ returns-in_default c =
     let t = c in
     let r = t in
     let s = r in
-    c.unread.ensures ∙ ap (λ (f : ReadFault). enrolment_unread f s.args.enrolment) c.fault_of.ensures ∙ unread_at s.args.enrolment s.args.input s.args.bytes.now _ _ t.enum_told-1.given.1 r.read-reading.ensures
+    c.unread.ensures ∙ ap (λ (f : ReadFault). enrolment_unread f s.args.enrolment) c.fault_of.ensures ∙ unread_at s.args.enrolment s.args.input s.args.bytes.now _ _ t.in_default.is r.read-reading.ensures
 
 pub returns : goal.returns
 returns c =
     let t = c in
     let r = t in
     let s = r in
-    c.checked.ensures ∙ sym (answer_at s.args.enrolment s.args.input s.args.bytes.now _ (told r.read-reading.ensures t.reading-1.given.1))
+    c.checked.ensures ∙ sym (answer_at s.args.enrolment s.args.input s.args.bytes.now _ (told r.read-reading.ensures t.in-Clean.is))

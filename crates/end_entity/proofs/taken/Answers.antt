@@ -2,26 +2,22 @@
 use mathlib.Core.Path.{sym, ◌∙◌, ap}
 use Rattle.der.proofs.Auto.{told}
 use Rattle.protocol.specs.declared.EnrolmentState.{EnrolmentState}
-use Rattle.protocol.specs.declared.EndEntityAnswer.{EndEntityAnswer}
 use Rattle.protocol.specs.Message.{is_response}
 use Rattle.protocol.specs.EndEntity.{enrolment_moved, in_state, confirming}
 use Rattle.end_entity.proofs.CheckedLaws.{acknowledged, reported, failed, confirmed, neither}
 use Rattle.end_entity.proofs.taken.Goals as goal
 
-abbrev in-state : tie.Start → EnrolmentState → EndEntityAnswer
-in-state s t = enrolment_moved (in_state s.args.enrolment t)
-
 pub returns-then-kind-eq-PKI_CONF : goal.returns-then-kind-eq-PKI_CONF
 returns-then-kind-eq-PKI_CONF c m k u n =
     let t = c in
     let s = t in
-    c.moved.ensures ∙ ap (in-state s) c.assured_state.ensures ∙ acknowledged s.args.enrolment s.args.input m (k ∙ t.if-kind-eq-PKI_CONF.true)
+    c.moved.ensures ∙ ap (λ (t : EnrolmentState). enrolment_moved (in_state s.args.enrolment t)) c.assured_state.ensures ∙ acknowledged s.args.enrolment s.args.input m (k ∙ t.if-kind-eq-PKI_CONF.true)
 
 pub returns-then-kind-eq-ERROR : goal.returns-then-kind-eq-ERROR
 returns-then-kind-eq-ERROR c m k u n =
     let t = c in
     let s = t in
-    c.moved-then-kind-eq-ERROR.ensures ∙ ap (in-state s) c.broken_state.ensures ∙ reported s.args.enrolment s.args.input m (k ∙ t.if-kind-eq-ERROR.true)
+    c.moved-then-kind-eq-ERROR.ensures ∙ ap (λ (t : EnrolmentState). enrolment_moved (in_state s.args.enrolment t)) c.broken_state.ensures ∙ reported s.args.enrolment s.args.input m (k ∙ t.if-kind-eq-ERROR.true)
 
 pub returns-then-status-eq2 : goal.returns-then-status-eq2
 returns-then-status-eq2 c m k u n =

@@ -8,7 +8,7 @@ unfolding read_answer read_fields
 returns-in-Clean c =
     let stored = c in
     let matched = stored in
-    let clean = told matched.read-r.ensures matched.r-1.given.1 in
+    let clean = told matched.read-r.ensures matched.in-Clean.is in
     (search (tests, clean), search (tests, stored.put_message.ensures, clean))
 
 pub returns-in-Refused : goal.returns-in-Refused
@@ -17,7 +17,7 @@ returns-in-Refused c =
     let rule = c in
     let offset = rule in
     let matched = offset in
-    let refused = told matched.read-r.ensures matched.r-in-Refused-1.given.1 in
+    let refused = told matched.read-r.ensures matched.in-Refused.is in
     (search (tests, c.widened.ensures, refused), search (tests, rule.put_small.ensures, offset.put_size.ensures, refused))
 
 pub returns-then-fields-lt-FIELDS : goal.returns-then-fields-lt-FIELDS

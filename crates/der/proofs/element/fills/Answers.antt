@@ -7,14 +7,14 @@ use Rattle.der.proofs.element.fills.Goals as goal
 pub overflow_add-result : goal.overflow_add-result
 unfolding fills
 overflow_add-result c =
-    omega (arith, whole_in _ c.read-h.ensures c.h-1.given.1)
+    omega (arith, whole_in _ c.read-h.ensures c.in-Whole.is)
 
 pub returns-in-Bad : goal.returns-in-Bad
 unfolding fills
 returns-in-Bad c =
-    search (tests, told c.read-h.ensures c.enum_told-1.given.1)
+    search (tests, told c.read-h.ensures c.in-Bad.is)
 
 pub returns-in-Whole : goal.returns-in-Whole
 unfolding fills
 returns-in-Whole c =
-    search (tests, told c.read-h.ensures c.h-1.given.1)
+    search (tests, told c.read-h.ensures c.in-Whole.is)

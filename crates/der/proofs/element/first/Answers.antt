@@ -20,7 +20,7 @@ slice_bounds-elements-end c =
     let packed = c in
     let s = packed.args.s.now in
     let whole = packed_whole s packed.packed-p.ensures c.if-p-eq0.false in
-    sym (cut_length s (λ i. omega (arith, packed.shared_slice_known-1.given i)) whole)
+    sym (cut_length s (λ i. omega (arith, packed.type_inv.s i)) whole)
 
 pub elements-requires : goal.elements-requires
 unfolding first_of
@@ -28,7 +28,7 @@ elements-requires c =
     let packed = c in
     let s = packed.args.s.now in
     let whole = packed_whole s packed.packed-p.ensures c.if-p-eq0.false in
-    let bytes : Bytes s = λ i. omega (arith, packed.shared_slice_known-1.given i) in
+    let bytes : Bytes s = λ i. omega (arith, packed.type_inv.s i) in
     omega (arith, first_small s bytes whole, cut_length s bytes whole)
 
 pub returns : goal.returns
@@ -37,4 +37,4 @@ returns c =
     let packed = c in
     let s = packed.args.s.now in
     let whole = packed_whole s packed.packed-p.ensures c.if-p-eq0.false in
-    c.elements.ensures ∙ rw (whole, cut_length s (λ i. omega (arith, packed.shared_slice_known-1.given i)) whole) refl
+    c.elements.ensures ∙ rw (whole, cut_length s (λ i. omega (arith, packed.type_inv.s i)) whole) refl

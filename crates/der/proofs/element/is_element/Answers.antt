@@ -9,13 +9,13 @@ pub elements-requires : goal.elements-requires
 unfolding is_element
 elements-requires c =
     let known = c in
-    omega (arith, fills-small _ (λ i. omega (arith, known.shared_slice_known-1.given i)) (told c.fills.ensures c.if-fills.true))
+    omega (arith, fills-small _ (λ i. omega (arith, known.type_inv.s i)) (told c.fills.ensures c.if-fills.true))
 
 pub returns-then-fills : goal.returns-then-fills
 unfolding is_element
 returns-then-fills c =
     let known = c in
-    let small = fills-small _ (λ i. omega (arith, known.shared_slice_known-1.given i)) (told c.fills.ensures c.if-fills.true) in
+    let small = fills-small _ (λ i. omega (arith, known.type_inv.s i)) (told c.fills.ensures c.if-fills.true) in
     search (tests, answer_test _ _ _ _ small c.elements.ensures, told c.fills.ensures c.if-fills.true)
 
 pub returns-else-fills : goal.returns-else-fills

@@ -3,10 +3,6 @@ use Prim.Native.Nat.{◌-◌, ◌≤◌}
 use mathlib.Core.Path.{◌≡◌}
 use lib.ListN.{length, drop}
 use Rattle.der.specs.Element.{max_depth, check_at, check}
-use Rattle.der.proofs.element.one_by_one.Reads as reads
-use Rattle.der.proofs.element.one_by_one.Lts as lts
-use Rattle.der.proofs.element.first.Reads as first_reads
-use Rattle.der.proofs.element.low.Reads as low_reads
 use Rattle.der.proofs.element.one_by_one.Given as goal
 
 abbrev pub invariant-loop-i : goal.invariant-loop-i

@@ -3,10 +3,7 @@ use Rattle.duskstall.proofs.end_entity_calls.duskstall_end_entity_time_out.Goals
 
 pub returns : goal.returns
 returns c =
-    let last = c in
-    let call = last in
-    let enrolment = call in
     rw (
-      ← enrolment.unpack_enrolment-x.ensures,
-      ← call.time_out-a.ensures,
-    ) last.end_entity_answered.ensures
+      ← c.unpack_enrolment-x.ensures,
+      ← c.time_out-a.ensures,
+    ) c.end_entity_answered.ensures

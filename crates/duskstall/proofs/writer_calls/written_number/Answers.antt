@@ -8,4 +8,4 @@ returns-in-Bytes c =
 
 pub returns-in-Refused : goal.returns-in-Refused
 returns-in-Refused c =
-    rw c.w-in-Refused-1.given.1 c.not_written.ensures
+    rw c.in-Refused.is c.not_written.ensures

@@ -1,8 +1,6 @@
-use Prim.Native.Nat.{◌-◌}
 use mathlib.Core.Path.{refl, ◌∙◌}
 use native.Mathlib.Omega.{arith}
 use Rattle.der.proofs.Auto.{tests}
-use Rattle.encoding.specs.Fits.{blank}
 use Rattle.given.proofs.FitsLaws.{blank_no, blank-yes, blank-end}
 use Rattle.given.proofs.fits.blank.Goals as goal
 

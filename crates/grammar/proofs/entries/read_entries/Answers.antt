@@ -5,7 +5,7 @@ use lib.Dec.{ltb}
 use Rattle.der.proofs.Auto.{tests, told, and_left}
 use Rattle.grammar.specs.declared.entries.Entries.{Entries}
 use Rattle.grammar.specs.Cursor.{left_at, more_at}
-use Rattle.grammar.specs.Entries.{no_entries, next, entries_of}
+use Rattle.grammar.specs.Entries.{next, entries_of}
 use Rattle.grammar.proofs.CursorLaws.{Left, left-start, left_end, left_less, left-more}
 use Rattle.grammar.proofs.EntryLaws.{moved-next, Counted, counted_next, room}
 use Rattle.grammar.proofs.entries.read_entries.Goals as goal

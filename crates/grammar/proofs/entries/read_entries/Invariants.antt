@@ -8,7 +8,7 @@ use Rattle.grammar.proofs.entries.read_entries.Given as goal
 
 abbrev pub invariant-loop-what : goal.invariant-loop-what
 invariant-loop-what l =
-    Left (λ (x : Entries). x.cur) (next l.m l.what) (moved-next l.m l.what) l.old.e l.e × Counted l.e
+    Left (λ (x : Entries). x.cur) (next l.m l.what) (moved-next l.m l.what) l.initial.e l.e × Counted l.e
 
 abbrev pub decreases-loop-what : goal.decreases-loop-what
 decreases-loop-what l =

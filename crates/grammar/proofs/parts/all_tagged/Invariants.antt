@@ -7,7 +7,7 @@ use Rattle.grammar.proofs.parts.all_tagged.Given as goal
 
 abbrev pub invariant-loop-k : goal.invariant-loop-k
 invariant-loop-k l =
-    Left (λ (c : Cursor). c) (need_of l.m l.tag) (moved_need l.m l.tag) l.old.k l.k
+    Left (λ (c : Cursor). c) (need_of l.m l.tag) (moved_need l.m l.tag) l.initial.k l.k
 
 abbrev pub decreases-loop-k : goal.decreases-loop-k
 decreases-loop-k l =

@@ -14,14 +14,14 @@ loop-k-init c = left-start (λ (k : Cursor). k) _ (moved_typed _) _
 pub loop-k-smaller : goal.loop-k-smaller
 loop-k-smaller c =
     let p = c in
-    subst (λ (k : Cursor). left_at k < left_at p.loop-k.k) (sym c.type-inv.ensures)
+    subst (λ (k : Cursor). left_at k < left_at p.loop-k.k) (sym c.typed-k.ensures)
     (left_less (λ (k : Cursor). k) _ (moved_typed _) p.loop-k.k (told p.more.ensures c.loop-k-test.true))
 
 pub loop-k-preserved : goal.loop-k-preserved
 loop-k-preserved c =
     let p = c in
     let a = p.args in
-    subst (Left (λ (k : Cursor). k) (typed_of a.m.now) (moved_typed a.m.now) a.c) (sym c.type-inv.ensures)
+    subst (Left (λ (k : Cursor). k) (typed_of a.m.now) (moved_typed a.m.now) a.c) (sym c.typed-k.ensures)
     (left-more (λ (k : Cursor). k) _ (moved_typed _) a.c p.loop-k.k p.loop-k.invariant (told p.more.ensures c.loop-k-test.true))
 
 pub returns : goal.returns

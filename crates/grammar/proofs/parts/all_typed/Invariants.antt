@@ -8,7 +8,7 @@ use Rattle.grammar.proofs.parts.all_typed.Given as goal
 
 abbrev pub invariant-loop-k : goal.invariant-loop-k
 invariant-loop-k l =
-    Left (λ (c : Cursor). c) (typed_of l.m) (moved_typed l.m) l.old.k l.k
+    Left (λ (c : Cursor). c) (typed_of l.m) (moved_typed l.m) l.initial.k l.k
 
 abbrev pub decreases-loop-k : goal.decreases-loop-k
 decreases-loop-k l =

@@ -5,4 +5,4 @@ use Rattle.grammar.proofs.parts.sequence_typed.Goals as goal
 pub returns : goal.returns
 unfolding sequence_by
 returns c =
-    search (tests, ← c.leave.ensures, ← c.all_Typed.ensures, ← c.type-inv.ensures, ← c.enter.ensures, ← c.need-s.ensures)
+    search (tests, ← c.leave.ensures, ← c.all_typed.ensures, ← c.typed-first.ensures, ← c.enter.ensures, ← c.need-s.ensures)

@@ -11,7 +11,7 @@ returns-then-t-tag c =
     let enter = typed in
     let need = enter in
     let there = need in
-    optional_there _ _ _ there.tag_at-t.ensures leave_of (typed_of _) there.if-t-tag.true need.need-o.ensures enter.enter.ensures typed.type-inv.ensures done.done.ensures c.leave.ensures
+    optional_there _ _ _ there.tag_at-t.ensures leave_of (typed_of _) there.if-t-tag.true need.need-o.ensures enter.enter.ensures typed.typed-i.ensures done.done.ensures c.leave.ensures
 
 pub returns-else-t-tag : goal.returns-else-t-tag
 unfolding typed_field

@@ -20,7 +20,7 @@ whole : (m : List ℕ) {z s c p x d l q : Cursor} {h : HeaderRead} {b : BodyRead
     z ≡ start_at (length m) → s ≡ need_of m 0x30 z → c ≡ enter_of s → h ≡ header_of m c → b ≡ body_of m h.cur → p ≡ field_of m 0xA0 0x03 b.cur → x ≡ sequence_field m 0xA1 Certificate p →
     d ≡ done_of x → l ≡ leave_of s d → q ≡ done_of l →
     i ≡ whole_span c h.cur → j ≡ whole_span h.cur b.cur → k ≡ outer_span b.cur p → n ≡ outer_span p x →
-    ◌≡◌ {A = MessageRead} (record { met = is_ok q; at = record { 0 = q.at }; found = record { header_span = i; body_span = j; protection = k; extra_certs = n; header = h.header-1; body = b.body-1 } }) (message_of m)
+    ◌≡◌ {A = MessageRead} (record { met = is_ok q; at = record { 0 = q.at }; found = record { header_span = i; body_span = j; protection = k; extra_certs = n; header = h.header; body = b.body } }) (message_of m)
 unfolding message_of
 whole m z s c h b p x d l q i j k n = simp (i, j, k, n, q, l, d, x, p, b, h, c, s, z)
 

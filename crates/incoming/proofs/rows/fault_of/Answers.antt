@@ -7,4 +7,4 @@ returns-in-Refused c =
 
 pub returns-in-Clean : goal.returns-in-Clean
 returns-in-Clean c =
-    search (tests, c.enum_told-1.given.1)
+    search (tests, c.in-Clean.is)

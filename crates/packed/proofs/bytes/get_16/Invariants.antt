@@ -6,7 +6,7 @@ use Rattle.packed.proofs.bytes.get_16.Given as goal
 
 abbrev pub invariant-loop-i : goal.invariant-loop-i
 invariant-loop-i l =
-    Filled 16 (drop l.at l.bytes) l.old.x l.x l.i
+    Filled 16 (drop l.at l.bytes) l.initial.x l.x l.i
 
 abbrev pub decreases-loop-i : goal.decreases-loop-i
 decreases-loop-i l =

@@ -1,8 +1,8 @@
-use Prim.Native.Nat.{ℕ, ◌-◌}
+use Prim.Native.Nat.{ℕ}
 use mathlib.Core.List.{List}
 use mathlib.Core.Path.{refl}
 use native.Mathlib.Omega.{arith}
-use lib.ListN.{drop, length-drop}
+use lib.ListN.{length-drop}
 use lib.Seq.{get_or-drop}
 use Rattle.packed.proofs.Copies.{fill_more, fill_all}
 use Rattle.packed.proofs.bytes.get_32.Goals as goal

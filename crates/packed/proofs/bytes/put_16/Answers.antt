@@ -1,4 +1,3 @@
-use Prim.Native.Nat.{◌-◌}
 use mathlib.Core.Path.{refl}
 use native.Mathlib.Omega.{arith}
 use Rattle.packed.proofs.Copies.{put-length, put-more, put_all}
@@ -12,13 +11,9 @@ pub overflow_add-bytes : goal.overflow_add-bytes
 overflow_add-bytes c =
     omega (arith, put-length c.loop-i.invariant)
 
-pub loop-i-smaller : goal.loop-i-smaller
-loop-i-smaller c =
-    put-more c.loop-i.invariant (omega arith) (omega arith)
-
 pub loop-i-preserved : goal.loop-i-preserved
 loop-i-preserved c =
-    put-length c.loop-i.invariant
+    put-more c.loop-i.invariant (omega arith) (omega arith)
 
 pub returns : goal.returns
 returns c =

@@ -5,7 +5,7 @@ use Rattle.packed.proofs.bytes.put_16.Given as goal
 
 abbrev pub invariant-loop-i : goal.invariant-loop-i
 invariant-loop-i l =
-    Put 16 l.at l.x l.old.bytes l.bytes l.i
+    Put 16 l.at l.x l.initial.bytes l.bytes l.i
 
 abbrev pub decreases-loop-i : goal.decreases-loop-i
 decreases-loop-i l =

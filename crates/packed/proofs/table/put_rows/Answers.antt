@@ -1,4 +1,3 @@
-use Prim.Native.Nat.{◌-◌}
 use mathlib.Core.Path.{refl}
 use native.Mathlib.Omega.{arith}
 use Rattle.packed.specs.Table.{pack_rows}
@@ -16,15 +15,10 @@ unfolding pack_rows
 put_transaction-requires c =
     omega (arith, placed_length c.loop-i.invariant.put)
 
-pub loop-i-smaller : goal.loop-i-smaller
-unfolding pack_rows
-loop-i-smaller c =
-    put-row c.loop-i.invariant (omega arith) (omega arith) _ c.put_transaction.ensures
-
 pub loop-i-preserved : goal.loop-i-preserved
 unfolding pack_rows
 loop-i-preserved c =
-    placed_length c.loop-i.invariant.put
+    put-row c.loop-i.invariant (omega arith) (omega arith) _ c.put_transaction.ensures
 
 pub returns : goal.returns
 unfolding pack_rows

@@ -6,7 +6,7 @@ use Rattle.packed.proofs.table.put_rows.Given as goal
 
 abbrev pub invariant-loop-i : goal.invariant-loop-i
 invariant-loop-i l =
-    PutRows capacity l.rows l.old.bytes l.bytes l.i l.at
+    PutRows capacity l.rows l.initial.bytes l.bytes l.i l.at
 
 abbrev pub decreases-loop-i : goal.decreases-loop-i
 decreases-loop-i l =

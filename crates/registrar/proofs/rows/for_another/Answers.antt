@@ -3,7 +3,7 @@ use Rattle.registrar.proofs.rows.for_another.Goals as goal
 
 pub returns-in-Good : goal.returns-in-Good
 returns-in-Good c =
-    search (tests, c.verdict-1.given.1)
+    search (tests, c.in-Good.is)
 
 pub returns-in-Bad : goal.returns-in-Bad
 returns-in-Bad c =

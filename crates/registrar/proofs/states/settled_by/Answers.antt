@@ -16,11 +16,11 @@ returns-in-Granted c =
 
 pub returns-in-Confirmed : goal.returns-in-Confirmed
 returns-in-Confirmed c =
-    search (tests, c.enum_told-in-Confirmed-1.given.1)
+    search (tests, c.in-Confirmed.is)
 
 pub returns-in-Declined : goal.returns-in-Declined
 returns-in-Declined c =
-    search (tests, c.enum_told-in-Declined-1.given.1)
+    search (tests, c.in-Declined.is)
 
 pub returns-in-Refused : goal.returns-in-Refused
 returns-in-Refused c =

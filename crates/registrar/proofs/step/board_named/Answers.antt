@@ -8,4 +8,4 @@ returns-in-Good c =
 
 pub returns-in-Bad : goal.returns-in-Bad
 returns-in-Bad c =
-    search (tests, c.enum_told-1.given.1)
+    search (tests, c.in-Bad.is)

@@ -6,9 +6,9 @@ use Rattle.writer.proofs.body.failure_size.Goals as goal
 pub returns-in-NoBit : goal.returns-in-NoBit
 unfolding optional
 returns-in-NoBit c =
-    rw c.enum_told-1.given.1 size_none
+    rw c.in-NoBit.is size_none
 
 pub returns-in-Bit : goal.returns-in-Bit
 unfolding optional
 returns-in-Bit c =
-    rw c.f-1.given.1 (size-around _ c.bit_content_size.ensures c.around.ensures)
+    rw c.in-Bit.is (size-around _ c.bit_content_size.ensures c.around.ensures)

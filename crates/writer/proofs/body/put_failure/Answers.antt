@@ -6,9 +6,9 @@ use Rattle.writer.proofs.body.put_failure.Goals as goal
 pub returns-in-NoBit : goal.returns-in-NoBit
 unfolding optional
 returns-in-NoBit c =
-    rw c.enum_told-1.given.1 (nothing _ _)
+    rw c.in-NoBit.is (nothing _ _)
 
 pub returns-in-Bit : goal.returns-in-Bit
 unfolding optional
 returns-in-Bit c =
-    rw c.f-1.given.1 c.put_bit.ensures
+    rw c.in-Bit.is c.put_bit.ensures

@@ -1,7 +1,7 @@
 -- Nothing where it is absent.
 use mathlib.Core.Path.{refl}
 use Rattle.der.proofs.Auto.{told}
-use Rattle.encoding.specs.Element.{wrapped, element}
+use Rattle.encoding.specs.Element.{wrapped}
 use Rattle.writer.proofs.Puts.{whole}
 use Rattle.writer.proofs.Given.{puts_there, puts_absent}
 use Rattle.writer.proofs.element.put_wrapped.Goals as goal

@@ -1,4 +1,3 @@
-use Prim.Native.Nat.{◌-◌}
 use mathlib.Core.Path.{refl}
 use native.Mathlib.Omega.{arith}
 use Rattle.writer.proofs.Puts.{copy_more, copy_all}
@@ -8,13 +7,9 @@ pub loop-i-init : goal.loop-i-init
 loop-i-init c =
     record { below = omega arith; is = refl; size = refl }
 
-pub loop-i-smaller : goal.loop-i-smaller
-loop-i-smaller c =
+pub loop-i-preserved : goal.loop-i-preserved
+loop-i-preserved c =
     copy_more _ c.loop-i.invariant (omega arith)
-
-pub overflow_add-result : goal.overflow_add-result
-overflow_add-result c =
-    c.loop-i.invariant.size
 
 pub returns : goal.returns
 returns c =

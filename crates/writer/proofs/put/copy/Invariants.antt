@@ -6,7 +6,7 @@ use Rattle.writer.proofs.put.copy.Given as goal
 
 abbrev pub invariant-loop-i : goal.invariant-loop-i
 invariant-loop-i l =
-    Copied l.at l.part l.old.buf l.buf l.i
+    Copied l.at l.part l.fn.buf l.buf l.i
 
 abbrev pub decreases-loop-i : goal.decreases-loop-i
 decreases-loop-i l =
