@@ -2,11 +2,11 @@
 use Prim.Native.Nat.{ℕ, ◌+◌, ◌*◌, ◌/◌, ◌%◌, ◌<◌, ◌≤◌}
 use mathlib.Core.Path.{◌≡◌, refl, sym, ◌∙◌, ap, subst}
 use mathlib.Core.List.{List, [], ◌∷◌, ◌++◌}
-use mathlib.Core.Bool.{Bool, true, false, not, ◌&&◌, ◌||◌}
-use native.Mathlib.Nat.{div-add-mod', mod-lt, mod-eq_of_lt, mul-add-div_right, mul-add-mod_self_right, div-eq_of_lt, div-lt_iff_lt-mul, add-zero, le_trans}
+use mathlib.Core.Bool.{true, not, ◌&&◌, ◌||◌}
+use native.Mathlib.Nat.{div-add-mod', mod-lt, mod-eq_of_lt, mul-add-div_right, mul-add-mod_self_right, div-eq_of_lt, add-zero}
 use native.Mathlib.Omega.{arith}
-use borrow.Author.Tests.{ltb-true, ltb-false, leb-true, eqb-true, eqb-false, lt-ltb, le-ltb, le-leb, ne_eqb}
-use lib.ListN.{length, get_or, take, drop, length-drop, take-append-drop}
+use borrow.Author.Tests.{ltb-true, ltb-false, eqb-true, eqb-false, lt-ltb, le-ltb, le-leb, ne_eqb}
+use lib.ListN.{length, take, drop, length-drop, take-append-drop}
 use lib.Seq.{take-suc, length-take-le}
 use lib.Dec.{ltb, leb, eqb, lit<}
 use Rattle.der.specs.declared.head.Head.{Head}

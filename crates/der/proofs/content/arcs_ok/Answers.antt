@@ -1,5 +1,3 @@
-use Prim.Native.Nat.{◌-◌}
-use mathlib.Core.Bool.{true}
 use native.Mathlib.Omega.{arith}
 use Rattle.der.proofs.Auto.{tests, told}
 use Rattle.der.proofs.ContentLaws.{arc_start, arc_more, arc_bad, arc_end}

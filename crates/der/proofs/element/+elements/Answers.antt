@@ -87,7 +87,7 @@ pub kind_at-k-requires : goal.kind_at-k-requires
 kind_at-k-requires t c =
     let r : Read (drop c.loop-i.i c.args.m.now) c.if-is_long.start c.if-is_long.len =
     elim c.if-is_long.branch [
-      then-is_long+else-p-eq0 w ↦ read_by_long c.args.m.now c.loop-i.i w.read_length-p.result w.read_length-p.ensures w.start-is w.len-is
+      | then-is_long+else-p-eq0 w ↦ read_by_long c.args.m.now c.loop-i.i w.read_length-p.result w.read_length-p.ensures w.start-is w.len-is
       | else-is_long w ↦ read_by_short c.args.m.now c.loop-i.i c.wide-len.result c.if-end-i-lt2.false c.wide-len.ensures.0 (ltb-false 127 c.wide-len.result (told c.is_long.ensures w.if-is_long.false)) w.start-is w.len-is
     ] in
     omega (arith, r.small, length-drop c.loop-i.i c.args.m.now, c.loop-i-test.true, c.requires)
@@ -97,7 +97,7 @@ returns-then-k-eq2 t c =
     let f : Found c.args.depth c.args.m.now 0 c.loop-i.i c.if-is_long.start c.if-is_long.len c.kind_at-k.result (check_at c.args.depth c.args.from (drop c.args.from c.args.m.now)) =
     found_there c.args.m.now c.args.from c.args.depth c.loop-i.i c.if-is_long.start c.if-is_long.len c.kind_at-k.result
     (elim c.if-is_long.branch [
-      then-is_long+else-p-eq0 w ↦ read_by_long c.args.m.now c.loop-i.i w.read_length-p.result w.read_length-p.ensures w.start-is w.len-is
+      | then-is_long+else-p-eq0 w ↦ read_by_long c.args.m.now c.loop-i.i w.read_length-p.result w.read_length-p.ensures w.start-is w.len-is
       | else-is_long w ↦ read_by_short c.args.m.now c.loop-i.i c.wide-len.result c.if-end-i-lt2.false c.wide-len.ensures.0 (ltb-false 127 c.wide-len.result (told c.is_long.ensures w.if-is_long.false)) w.start-is w.len-is
     ]) c.if-depth-eq0.false c.loop-i-test.true c.loop-i.invariant c.kind_at-k.ensures in
     c.fault-then-k-eq2.ensures
@@ -108,7 +108,7 @@ pub overflow_add-a : goal.overflow_add-a
 overflow_add-a t c =
     let r : Read (drop c.loop-i.i c.args.m.now) c.if-is_long.start c.if-is_long.len =
     elim c.if-is_long.branch [
-      then-is_long+else-p-eq0 w ↦ read_by_long c.args.m.now c.loop-i.i w.read_length-p.result w.read_length-p.ensures w.start-is w.len-is
+      | then-is_long+else-p-eq0 w ↦ read_by_long c.args.m.now c.loop-i.i w.read_length-p.result w.read_length-p.ensures w.start-is w.len-is
       | else-is_long w ↦ read_by_short c.args.m.now c.loop-i.i c.wide-len.result c.if-end-i-lt2.false c.wide-len.ensures.0 (ltb-false 127 c.wide-len.result (told c.is_long.ensures w.if-is_long.false)) w.start-is w.len-is
     ] in
     omega (arith, r.small, length-drop c.loop-i.i c.args.m.now, c.loop-i-test.true, c.requires)
@@ -117,7 +117,7 @@ pub overflow_add-e : goal.overflow_add-e
 overflow_add-e t c =
     let r : Read (drop c.loop-i.i c.args.m.now) c.if-is_long.start c.if-is_long.len =
     elim c.if-is_long.branch [
-      then-is_long+else-p-eq0 w ↦ read_by_long c.args.m.now c.loop-i.i w.read_length-p.result w.read_length-p.ensures w.start-is w.len-is
+      | then-is_long+else-p-eq0 w ↦ read_by_long c.args.m.now c.loop-i.i w.read_length-p.result w.read_length-p.ensures w.start-is w.len-is
       | else-is_long w ↦ read_by_short c.args.m.now c.loop-i.i c.wide-len.result c.if-end-i-lt2.false c.wide-len.ensures.0 (ltb-false 127 c.wide-len.result (told c.is_long.ensures w.if-is_long.false)) w.start-is w.len-is
     ] in
     omega (arith, r.small, length-drop c.loop-i.i c.args.m.now, c.loop-i-test.true, c.requires)
@@ -127,7 +127,7 @@ loop-i-smaller-then-k-eq0 t c =
     let f : Found c.args.depth c.args.m.now 0 c.loop-i.i c.if-is_long.start c.if-is_long.len c.kind_at-k.result (check_at c.args.depth c.args.from (drop c.args.from c.args.m.now)) =
     found_there c.args.m.now c.args.from c.args.depth c.loop-i.i c.if-is_long.start c.if-is_long.len c.kind_at-k.result
     (elim c.if-is_long.branch [
-      then-is_long+else-p-eq0 w ↦ read_by_long c.args.m.now c.loop-i.i w.read_length-p.result w.read_length-p.ensures w.start-is w.len-is
+      | then-is_long+else-p-eq0 w ↦ read_by_long c.args.m.now c.loop-i.i w.read_length-p.result w.read_length-p.ensures w.start-is w.len-is
       | else-is_long w ↦ read_by_short c.args.m.now c.loop-i.i c.wide-len.result c.if-end-i-lt2.false c.wide-len.ensures.0 (ltb-false 127 c.wide-len.result (told c.is_long.ensures w.if-is_long.false)) w.start-is w.len-is
     ]) c.if-depth-eq0.false c.loop-i-test.true c.loop-i.invariant c.kind_at-k.ensures in
     omega (arith, ends_in_lem f c.if-k-eq2.false c.if-k-eq0.true, c.loop-i-test.true)
@@ -137,7 +137,7 @@ loop-i-preserved-then-k-eq0 t c =
     let f : Found c.args.depth c.args.m.now 0 c.loop-i.i c.if-is_long.start c.if-is_long.len c.kind_at-k.result (check_at c.args.depth c.args.from (drop c.args.from c.args.m.now)) =
     found_there c.args.m.now c.args.from c.args.depth c.loop-i.i c.if-is_long.start c.if-is_long.len c.kind_at-k.result
     (elim c.if-is_long.branch [
-      then-is_long+else-p-eq0 w ↦ read_by_long c.args.m.now c.loop-i.i w.read_length-p.result w.read_length-p.ensures w.start-is w.len-is
+      | then-is_long+else-p-eq0 w ↦ read_by_long c.args.m.now c.loop-i.i w.read_length-p.result w.read_length-p.ensures w.start-is w.len-is
       | else-is_long w ↦ read_by_short c.args.m.now c.loop-i.i c.wide-len.result c.if-end-i-lt2.false c.wide-len.ensures.0 (ltb-false 127 c.wide-len.result (told c.is_long.ensures w.if-is_long.false)) w.start-is w.len-is
     ]) c.if-depth-eq0.false c.loop-i-test.true c.loop-i.invariant c.kind_at-k.ensures in
     inl (omega (arith, ends_in_lem f c.if-k-eq2.false c.if-k-eq0.true), goes_on f c.if-k-eq2.false c.if-k-eq0.true)
@@ -147,7 +147,7 @@ slice_bounds-elements-end t c =
     let f : Found c.args.depth c.args.m.now 0 c.loop-i.i c.if-is_long.start c.if-is_long.len c.kind_at-k.result (check_at c.args.depth c.args.from (drop c.args.from c.args.m.now)) =
     found_there c.args.m.now c.args.from c.args.depth c.loop-i.i c.if-is_long.start c.if-is_long.len c.kind_at-k.result
     (elim c.if-is_long.branch [
-      then-is_long+else-p-eq0 w ↦ read_by_long c.args.m.now c.loop-i.i w.read_length-p.result w.read_length-p.ensures w.start-is w.len-is
+      | then-is_long+else-p-eq0 w ↦ read_by_long c.args.m.now c.loop-i.i w.read_length-p.result w.read_length-p.ensures w.start-is w.len-is
       | else-is_long w ↦ read_by_short c.args.m.now c.loop-i.i c.wide-len.result c.if-end-i-lt2.false c.wide-len.ensures.0 (ltb-false 127 c.wide-len.result (told c.is_long.ensures w.if-is_long.false)) w.start-is w.len-is
     ]) c.if-depth-eq0.false c.loop-i-test.true c.loop-i.invariant c.kind_at-k.ensures in
     let h = holds_in f c.if-k-eq2.false c.if-k-eq0.false in
@@ -159,7 +159,7 @@ elements-i-requires t c =
     let f : Found c.args.depth c.args.m.now 0 c.loop-i.i c.if-is_long.start c.if-is_long.len c.kind_at-k.result (check_at c.args.depth c.args.from (drop c.args.from c.args.m.now)) =
     found_there c.args.m.now c.args.from c.args.depth c.loop-i.i c.if-is_long.start c.if-is_long.len c.kind_at-k.result
     (elim c.if-is_long.branch [
-      then-is_long+else-p-eq0 w ↦ read_by_long c.args.m.now c.loop-i.i w.read_length-p.result w.read_length-p.ensures w.start-is w.len-is
+      | then-is_long+else-p-eq0 w ↦ read_by_long c.args.m.now c.loop-i.i w.read_length-p.result w.read_length-p.ensures w.start-is w.len-is
       | else-is_long w ↦ read_by_short c.args.m.now c.loop-i.i c.wide-len.result c.if-end-i-lt2.false c.wide-len.ensures.0 (ltb-false 127 c.wide-len.result (told c.is_long.ensures w.if-is_long.false)) w.start-is w.len-is
     ]) c.if-depth-eq0.false c.loop-i-test.true c.loop-i.invariant c.kind_at-k.ensures in
     let h = holds_in f c.if-k-eq2.false c.if-k-eq0.false in
@@ -171,7 +171,7 @@ loop-i-smaller t c =
     let f : Found c.args.depth c.args.m.now 0 c.loop-i.i c.if-is_long.start c.if-is_long.len c.kind_at-k.result (check_at c.args.depth c.args.from (drop c.args.from c.args.m.now)) =
     found_there c.args.m.now c.args.from c.args.depth c.loop-i.i c.if-is_long.start c.if-is_long.len c.kind_at-k.result
     (elim c.if-is_long.branch [
-      then-is_long+else-p-eq0 w ↦ read_by_long c.args.m.now c.loop-i.i w.read_length-p.result w.read_length-p.ensures w.start-is w.len-is
+      | then-is_long+else-p-eq0 w ↦ read_by_long c.args.m.now c.loop-i.i w.read_length-p.result w.read_length-p.ensures w.start-is w.len-is
       | else-is_long w ↦ read_by_short c.args.m.now c.loop-i.i c.wide-len.result c.if-end-i-lt2.false c.wide-len.ensures.0 (ltb-false 127 c.wide-len.result (told c.is_long.ensures w.if-is_long.false)) w.start-is w.len-is
     ]) c.if-depth-eq0.false c.loop-i-test.true c.loop-i.invariant c.kind_at-k.ensures in
     let h = holds_in f c.if-k-eq2.false c.if-k-eq0.false in
@@ -184,7 +184,7 @@ loop-i-preserved t c =
     let f : Found c.args.depth c.args.m.now 0 c.loop-i.i c.if-is_long.start c.if-is_long.len c.kind_at-k.result (check_at c.args.depth c.args.from (drop c.args.from c.args.m.now)) =
     found_there c.args.m.now c.args.from c.args.depth c.loop-i.i c.if-is_long.start c.if-is_long.len c.kind_at-k.result
     (elim c.if-is_long.branch [
-      then-is_long+else-p-eq0 w ↦ read_by_long c.args.m.now c.loop-i.i w.read_length-p.result w.read_length-p.ensures w.start-is w.len-is
+      | then-is_long+else-p-eq0 w ↦ read_by_long c.args.m.now c.loop-i.i w.read_length-p.result w.read_length-p.ensures w.start-is w.len-is
       | else-is_long w ↦ read_by_short c.args.m.now c.loop-i.i c.wide-len.result c.if-end-i-lt2.false c.wide-len.ensures.0 (ltb-false 127 c.wide-len.result (told c.is_long.ensures w.if-is_long.false)) w.start-is w.len-is
     ]) c.if-depth-eq0.false c.loop-i-test.true c.loop-i.invariant c.kind_at-k.ensures in
     past_constructed c.args.m.now c.args.from c.args.depth c.loop-i.i c.if-is_long.start c.if-is_long.len c.kind_at-k.result c.elements-i.result f c.if-k-eq2.false c.if-k-eq0.false c.requires.1 c.elements-i.ensures

@@ -1,12 +1,9 @@
-use Prim.Native.Nat.{ℕ, ◌≤◌}
-use mathlib.Core.List.{List}
-use mathlib.Core.Path.{◌≡◌, ◌∙◌, sym, ap}
+use mathlib.Core.Path.{◌∙◌, sym, ap}
 use native.Mathlib.Omega.{arith}
 use borrow.Author.Tests.{ltb-true, ltb-false}
-use lib.ListN.{length}
 use Rattle.der.proofs.Auto.{tests, told}
 use Rattle.der.proofs.HeadLaws.{packed_inside, Form, no_form, short_form, by_81, by_82, other_form, form_81, form_82, low_82}
-use Rattle.der.specs.Head.{length_of, length81, length82}
+use Rattle.der.specs.Head.{length81, length82}
 use Rattle.der.specs.Code.{packed_of}
 use Rattle.der.proofs.head.read_length.Goals as goal
 use Rattle.der.proofs.head.read_length.Goals.{then-is_long+then-first-eq129+else-n-start+else-len-lt128, then-is_long+else-first-eq129+then-first-eq130+else-n-start-2+else-len-lt256, else-is_long}
@@ -48,7 +45,7 @@ fit-requires c =
     let s = c.args.s.now in
     let form : Form s c.if-is_long.start c.if-is_long.len =
     elim c.if-is_long.branch [
-      then-is_long+then-first-eq129+else-n-start+else-len-lt128 w ↦ rw (w.start-is, w.len-is) (form_81 s (by_81 s c.if-n-lt-SHORT.false c.wide-first.ensures.0 w.if-first-eq129.true) (omega (arith, w.if-n-start.false)) w.wide-len.ensures (omega (arith, w.if-len-lt128.false)))
+      | then-is_long+then-first-eq129+else-n-start+else-len-lt128 w ↦ rw (w.start-is, w.len-is) (form_81 s (by_81 s c.if-n-lt-SHORT.false c.wide-first.ensures.0 w.if-first-eq129.true) (omega (arith, w.if-n-start.false)) w.wide-len.ensures (omega (arith, w.if-len-lt128.false)))
       | then-is_long+else-first-eq129+then-first-eq130+else-n-start-2+else-len-lt256 w ↦ rw (w.start-is, w.len-is) (form_82 s (by_82 s c.if-n-lt-SHORT.false c.wide-first.ensures.0 w.if-first-eq130.true) (omega (arith, w.if-n-start-2.false)) w.wide.ensures w.wide-then-first-eq130.ensures (omega (arith, w.if-len-lt256.false)))
       | else-is_long w ↦ rw (w.start-is, w.len-is) (short_form s c.if-n-lt-SHORT.false c.wide-first.ensures.0 (ltb-false 127 c.wide-first.result (told c.is_long.ensures w.if-is_long.false)))
     ] in
@@ -60,7 +57,7 @@ returns c =
     let s = c.args.s.now in
     let form : Form s c.if-is_long.start c.if-is_long.len =
     elim c.if-is_long.branch [
-      then-is_long+then-first-eq129+else-n-start+else-len-lt128 w ↦ rw (w.start-is, w.len-is) (form_81 s (by_81 s c.if-n-lt-SHORT.false c.wide-first.ensures.0 w.if-first-eq129.true) (omega (arith, w.if-n-start.false)) w.wide-len.ensures (omega (arith, w.if-len-lt128.false)))
+      | then-is_long+then-first-eq129+else-n-start+else-len-lt128 w ↦ rw (w.start-is, w.len-is) (form_81 s (by_81 s c.if-n-lt-SHORT.false c.wide-first.ensures.0 w.if-first-eq129.true) (omega (arith, w.if-n-start.false)) w.wide-len.ensures (omega (arith, w.if-len-lt128.false)))
       | then-is_long+else-first-eq129+then-first-eq130+else-n-start-2+else-len-lt256 w ↦ rw (w.start-is, w.len-is) (form_82 s (by_82 s c.if-n-lt-SHORT.false c.wide-first.ensures.0 w.if-first-eq130.true) (omega (arith, w.if-n-start-2.false)) w.wide.ensures w.wide-then-first-eq130.ensures (omega (arith, w.if-len-lt256.false)))
       | else-is_long w ↦ rw (w.start-is, w.len-is) (short_form s c.if-n-lt-SHORT.false c.wide-first.ensures.0 (ltb-false 127 c.wide-first.result (told c.is_long.ensures w.if-is_long.false)))
     ] in
