@@ -35,6 +35,7 @@ fn from_entries(cur: Cursor, ca_pubs: Span, e: Entries) -> Contents
     }
 }
 
+#[tactic(auto, unfolding(crate::specs::Body::at_least_one))]
 fn at_least_one(e: Entries) -> Cursor
     ensures { result ≡ at_least_one e }
 {

@@ -7,3 +7,4 @@ pub mod Parts
 pub mod Rows
 pub mod TableInverse
 pub mod Tests
+pub mod Unpacked

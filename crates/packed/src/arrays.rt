@@ -19,6 +19,7 @@ pub struct Unpacked32 {
 }
 
 // The bytes of an id or a nonce, where there are exactly 16.
+#[tactic(auto, using(crate::proofs::Unpacked::whole_16, crate::proofs::Unpacked::other_16))]
 pub fn unpack_16(bytes: &[u8]) -> Unpacked16
     ensures { result ≡ unpack16 bytes.now }
 {
@@ -34,6 +35,7 @@ pub fn unpack_16(bytes: &[u8]) -> Unpacked16
 }
 
 // The bytes of a hash, where there are exactly 32.
+#[tactic(auto, using(crate::proofs::Unpacked::whole_32, crate::proofs::Unpacked::other_32))]
 pub fn unpack_32(bytes: &[u8]) -> Unpacked32
     ensures { result ≡ unpack32 bytes.now }
 {

@@ -124,6 +124,7 @@ fn get_outgoing(bytes: &[u8]) -> Outgoing
 }
 
 // The message that `bytes` hold, where they are exactly as long as one.
+#[tactic(auto, unfolding(crate::specs::Outgoing::unpack_outgoing))]
 pub fn unpack_outgoing(bytes: &[u8]) -> UnpackedOutgoing
     ensures { result ≡ unpack_outgoing bytes.now }
 {

@@ -110,6 +110,7 @@ pub(crate) fn wrapped_size(src: &[u8], s: Span) -> u16
 // ## INTEGER
 
 // How many of a number's four bytes are not needed: those that repeat the sign.
+#[tactic(auto, unfolding(crate::specs::Code::unneeded))]
 fn unneeded(n: u32) -> usize
     ensures { (result ≡ unneeded n) × (result < 4) }
 {

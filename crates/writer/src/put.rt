@@ -41,6 +41,7 @@ pub(crate) fn bytes(buf: &mut [u8], at: usize, part: &[u8]) -> usize
 }
 
 // Tag and length of an element around so many bytes.
+#[tactic(auto, unfolding(der::specs::Head::head_bytes))]
 pub(crate) fn head(buf: &mut [u8], at: usize, tag: u8, len: u16) -> usize
     ensures { Puts at result (head_bytes tag len) buf.old buf.new }
 {

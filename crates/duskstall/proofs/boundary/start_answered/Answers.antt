@@ -1,5 +1,6 @@
 -- A fault ends the call; a start that is done gives its enrolment, and a refused one leaves the bytes.
 use mathlib.Core.Path.{refl}
+use native.Mathlib.Omega.{arith}
 use Rattle.duskstall.specs.Boundary.{start_crossing}
 use Rattle.duskstall.proofs.Crossings.{faulty, through, start-done, start-refused}
 use Rattle.duskstall.proofs.boundary.start_answered.Goals as goal
@@ -26,4 +27,4 @@ returns c =
     let code = answer in
     let tested = code in
     through _ tested.boundary_fault-fault.ensures _ _ _ tested.if-fault-ne0.false _ _ _
-    (start-refused _ _ _ _ code.outcome_code-code.ensures answer.pack_end_entity_answer.ensures.1 c.if-code-eq0.false refl)
+    (start-refused _ _ _ _ code.outcome_code-code.ensures answer.pack_end_entity_answer.ensures.1 (λ z. omega arith) refl)

@@ -13,7 +13,7 @@ returns-then-bytes-at-ge7 c =
 
 pub loop-i-preserved : goal.loop-i-preserved
 loop-i-preserved c =
-    check-more c.loop-i.invariant (omega arith) c.if-bytes-at-ge7.false
+    check-more c.loop-i.invariant (omega arith) (omega arith)
 
 pub returns : goal.returns
 returns c =
