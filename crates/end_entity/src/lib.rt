@@ -50,6 +50,7 @@ fn after_refusal(number: u8, bytes: &[u8], m: Message, enrolment: Enrolment) -> 
 
 // A message that no row refuses, by its kind: of any with this kind, status and senderNonce. Of another kind none comes
 // here.
+#[tactic(auto, unfolding(protocol::specs::EndEntity::end_entity_checked))]
 fn taken(
     enrolment: Enrolment,
     input: EndEntityInput,

@@ -66,6 +66,7 @@ fn lowest_fault(c: Check, g: MessageRead) -> Reading
 }
 
 // Reads a message: every part that was found, or the refusal.
+#[tactic(auto, unfolding(crate::specs::Read::reading_of))]
 pub fn read(message: &[u8]) -> Reading
     ensures { result ≡ reading_of message.now }
 {

@@ -1,12 +1,12 @@
 -- For the proofs of code: copies and comparisons byte by byte.
-use Prim.Native.Nat.{ℕ, suc, ◌+◌, ◌-◌, ◌<◌, ◌≤◌}
+use Prim.Native.Nat.{ℕ, suc, ◌+◌, ◌<◌, ◌≤◌}
 use mathlib.Core.List.{List, [], ◌∷◌}
 use mathlib.Core.Bool.{Bool, true, false, cond, ◌&&◌}
 use mathlib.Core.Path.{◌≡◌, refl, sym, ◌∙◌, ap}
 use native.Mathlib.Numerals.{add-one}
 use native.Mathlib.Omega.{arith}
-use lib.ListN.{length, take, drop, get_or, set, drop_of_length-le, length-drop}
-use lib.Seq.{take-nil, take_all, take-suc, take-suc-set, drop-cons}
+use lib.ListN.{length, take, drop, get_or, set, drop_of_length-le}
+use lib.Seq.{take_all, take-suc, take-suc-set, drop-cons}
 use lib.Dec.{eqb, eqb_refl}
 use mathlib.Core.Option.{none, some}
 use Rattle.grammar.specs.declared.Span.{Span}

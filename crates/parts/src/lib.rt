@@ -23,6 +23,7 @@ pub fn is_present(span: Span) -> bool
 }
 
 // The one comparison of bytes: ids, nonces and hashes are the same where these are.
+#[tactic(auto, using(crate::proofs::Laws::other_length))]
 fn same_bytes(p: &[u8], q: &[u8]) -> bool
     ensures { result ≡ same_bytes p.now q.now }
 {

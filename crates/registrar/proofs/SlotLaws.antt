@@ -109,3 +109,6 @@ pub room_no : (rs : List Transaction) → length rs ≤ free_slot rs → has_fre
 unfolding free_slot has_free_slot
 room_no [] p = refl
 room_no (r ∷ rs) p = no_at (has_free_slot rs) (free_slot rs) (length rs) (λ q. room_no rs q) (is_free r.state) p
+
+-- whether there is room, by the slot
+pub ruleset room = (room-yes, room_no)

@@ -71,6 +71,7 @@ fn other_kind(kind: u8) -> bool
 }
 
 // 11: no slot is free.
+#[tactic(auto, using(crate::proofs::SlotLaws::room))]
 fn full(table: TransactionTable) -> bool
     ensures { result ≡ not (has_free_slot table.transactions) }
 {

@@ -1,15 +1,10 @@
-use Prim.Native.Nat.{◌-◌}
 use mathlib.Core.Path.{refl, sym, ◌∙◌}
 use native.Mathlib.Omega.{arith}
-use lib.ListN.{length}
-use Rattle.parts.proofs.Laws.{same_no, same-yes, same_end, other_length}
+use Rattle.parts.proofs.Laws.{same_no, same-yes, same_end}
 use Rattle.parts.proofs.same_bytes.Goals as goal
 
-pub returns-then-n-q : goal.returns-then-n-q
-returns-then-n-q c = sym (other_length _ _ c.if-n-q.true)
-
 pub loop-i-init : goal.loop-i-init
-loop-i-init c = (omega arith, c.if-n-q.false, refl)
+loop-i-init c = (omega arith, omega arith, refl)
 
 pub bounds-p-i : goal.bounds-p-i
 bounds-p-i c = omega arith

@@ -1,8 +1,8 @@
-use Prim.Native.Nat.{ℕ, ◌-◌}
+use Prim.Native.Nat.{ℕ}
 use mathlib.Core.List.{List}
 use mathlib.Core.Path.{refl}
 use native.Mathlib.Omega.{arith}
-use lib.ListN.{length, length-set}
+use lib.ListN.{length-set}
 use Rattle.der.proofs.Auto.{tests}
 use Rattle.parts.proofs.Laws.{copied, copied_all}
 use Rattle.parts.proofs.sixteen.Goals as goal
