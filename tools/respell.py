@@ -108,7 +108,7 @@ def table():
         if "-" in n and m in taken:
             new[n] = m + "_lem"
     # so does one that the kit's script has spelled like a definition already
-    met = {m for n, m in new.items() if "-" not in n}
+    met = ({m for n, m in new.items() if n in defs} | {"step_by", "all_small"}) - {"is_number"}
     for n in declared(lemmas):
         if n in met and n not in defs:
             LEMMA_FIRST[n] = n + "_lem"

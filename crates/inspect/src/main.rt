@@ -1,8 +1,8 @@
 // Reads a message from standard input and prints where its parts are, start and length, or by which number it is refused.
 //
 // Where standard input cannot be read, it prints nothing but a line on standard error, and where standard output cannot be
-// written, such a line too. The program ends with 0 in these cases as well. A read or a write that a signal interrupts counts
-// as one that failed.
+// written, such a line too. The program ends with 0 in these cases as well. A read that a signal interrupts counts as one that
+// failed.
 #![tactic(auto)]
 
 ghost use Rattle.std.specs.Prelude.{◌≡◌, ◌≤◌, length, take};
