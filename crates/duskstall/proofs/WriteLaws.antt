@@ -9,7 +9,7 @@ use Rattle.packed.specs.declared.outgoing.UnpackedOutgoing.{UnpackedOutgoing}
 use Rattle.packed.specs.Outgoing.{unpack_outgoing}
 use Rattle.given.specs.declared.GivenSpans.{GivenSpans}
 use Rattle.given.specs.Numbers.{given_count, spans_of}
-use Rattle.writer.specs.declared.Written.{Written}
+use Rattle.writer.specs.Types.{Written}
 use Rattle.writer.specs.Write.{write_answer, buffer_after}
 use Rattle.duskstall.specs.Write.{not_written, written_number, write_args, write_number, write_buffer}
 

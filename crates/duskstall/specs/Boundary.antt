@@ -1,7 +1,6 @@
 -- The calls of both ends over lent bytes: what the bytes stand for goes into the call, and its answer goes back into bytes.
-use Rattle.std.specs.Prelude.{ℕ, List, Bool, cond, ◌≡◌, length, eqb, leb}
-use Rattle.protocol.specs.declared.Verdict.{Verdict}
-use Rattle.protocol.specs.declared.Verdict.TheVariants.{Bad, Good}
+use Rattle.std.specs.Prelude.{ℕ, List, Bool, cond, ◌≡◌, length, eqb, leb, Some, None}
+use Rattle.protocol.specs.Types.{Verdict}
 use Rattle.protocol.specs.declared.TransactionTable.{TransactionTable}
 use Rattle.protocol.specs.declared.Enrolment.{Enrolment}
 use Rattle.protocol.specs.declared.RegistrarAnswer.{RegistrarAnswer}
@@ -79,4 +78,4 @@ yes n = eqb n 1
 
 -- likewise: 1 is good, and the board is named; every other number is bad
 abbrev pub verdict_of : (good board : ℕ) → Verdict
-verdict_of good board = cond (eqb good 1) (Good (record { 0 = board })) Bad
+verdict_of good board = cond (eqb good 1) (Some (record { 0 = board })) None

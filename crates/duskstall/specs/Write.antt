@@ -1,9 +1,8 @@
 -- Writing over lent bytes: the number that is returned, and the buffer.
-use Rattle.std.specs.Prelude.{ℕ, ◌*◌, List, Bool, cond, ◌&&◌, length, eqb}
+use Rattle.std.specs.Prelude.{ℕ, ◌*◌, List, Bool, cond, ◌&&◌, length, eqb, Ok, Err}
 use Rattle.packed.specs.Outgoing.{unpack_outgoing}
 use Rattle.given.specs.Numbers.{given_count, spans_of}
-use Rattle.writer.specs.declared.Written.{Written}
-use Rattle.writer.specs.declared.Written.TheVariants.{Bytes, Refused}
+use Rattle.writer.specs.Types.{Written}
 use Rattle.writer.specs.Write.{write_answer, buffer_after}
 
 -- a number that tells why nothing is written stands in the high 32 bits
@@ -12,8 +11,8 @@ not_written k = k * 4294967296
 
 -- the message's size, or the refusal
 abbrev pub written_number : Written → ℕ
-written_number (Bytes n) = n
-written_number (Refused k) = not_written k
+written_number (Ok n) = n
+written_number (Err k) = not_written k
 
 -- the lengths are those of an order and of the given numbers
 abbrev pub write_args : (outgoing given : List ℕ) → Bool

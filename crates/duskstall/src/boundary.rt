@@ -69,9 +69,9 @@ pub(crate) fn verdict_of(good: u8, board: u16) -> Verdict
     ensures { result ≡ verdict_of good board }
 {
     if good == YES {
-        return Verdict::Good(Board(board));
+        return Some(Board(board));
     }
-    Verdict::Bad
+    None
 }
 
 fn outcome_code(o: Outcome) -> u64

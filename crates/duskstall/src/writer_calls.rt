@@ -18,8 +18,8 @@ fn written_number(w: Written) -> u64
     ensures { result ≡ written_number w }
 {
     match w {
-        Written::Bytes(n) => n as u64,
-        Written::Refused(number) => not_written(number),
+        Ok(n) => n as u64,
+        Err(number) => not_written(number),
     }
 }
 

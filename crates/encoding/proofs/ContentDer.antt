@@ -1,4 +1,5 @@
 -- What a body holds is DER, by its kind.
+use Rattle.std.specs.Prelude.{Some, None}
 use Prim.Native.Nat.{ℕ, suc, ◌<◌}
 use mathlib.Core.Path.{refl}
 use mathlib.Core.List.{List, [], ◌++◌}
@@ -8,8 +9,7 @@ use lib.Dec.{eqb}
 use Rattle.der.specs.Head.{tag_ok}
 use Rattle.der.specs.Content.{content_ok}
 use Rattle.der.specs.Element.{form_ok}
-use Rattle.protocol.specs.declared.FailureInfo.{FailureInfo}
-use Rattle.protocol.specs.declared.FailureInfo.TheVariants.{NoBit, Bit}
+use Rattle.protocol.specs.Types.{FailureInfo}
 use Rattle.encoding.specs.Element.{element, integer, optional}
 use Rattle.encoding.specs.Message.{bit_content, failure_bits, status_bytes, requests_bytes, key_pair_bytes, responses_bytes, confirmations_bytes, error_bytes}
 use Rattle.encoding.proofs.Sound.{Whole-element, Sounds, none_sounds, node_sounds, leaf_sounds, given_sounds}
@@ -23,8 +23,8 @@ number_sounds d n rest word = integer_sounds d n rest (integer_ok_lem n word)
 
 bits_sound : (d : ℕ) (f : FailureInfo) → Sounds (suc d) (optional 0x03 (failure_bits f) ++ [])
 unfolding optional tag_ok form_ok content_ok
-bits_sound d NoBit = none_sounds (suc d)
-bits_sound d (Bit b) = leaf_sounds d 0x03 (bit_content b) [] refl refl refl (bit_ok b) (none_sounds (suc d))
+bits_sound d None = none_sounds (suc d)
+bits_sound d (Some b) = leaf_sounds d 0x03 (bit_content b) [] refl refl refl (bit_ok b) (none_sounds (suc d))
 
 status_sounds : (d s : ℕ) (f : FailureInfo) (rest : List ℕ) → s < 4294967296 → Sounds (suc (suc d)) rest
     → Sounds (suc (suc d)) (status_bytes s (failure_bits f) ++ rest)
@@ -36,7 +36,7 @@ status_sounds d s f rest word after =
 -- a certConf's status 0 is left out
 maybe_sounds : (s : ℕ) → s < 4294967296 → (b : Bool) → Sounds 12 (cond b [] (status_bytes s none) ++ [])
 maybe_sounds s word true = none_sounds 12
-maybe_sounds s word false = status_sounds 10 s NoBit [] word (none_sounds 12)
+maybe_sounds s word false = status_sounds 10 s None [] word (none_sounds 12)
 
 pub confirmations_sound : (h : List ℕ) (n s : ℕ) → n < 4294967296 → s < 4294967296 → Sounds 14 (confirmations_bytes h n s ++ [])
 unfolding confirmations_bytes tag_ok form_ok content_ok
@@ -69,7 +69,7 @@ responses_sound n s e wn ws q =
     node_sounds 13 0x30 (element 0x30 (element 0x30 inside ++ []) ++ []) [] refl refl refl
     (node_sounds 12 0x30 (element 0x30 inside ++ []) [] refl refl refl
     (node_sounds 11 0x30 inside [] refl refl refl
-    (number_sounds 10 n _ wn (status_sounds 9 s NoBit (key_pair_bytes e ++ []) ws (key_pair_sounds e q)))
+    (number_sounds 10 n _ wn (status_sounds 9 s None (key_pair_bytes e ++ []) ws (key_pair_sounds e q)))
     (none_sounds 12)) (none_sounds 13)) (none_sounds 14)
 
 pub requests_sound : (e : List ℕ) → Whole-element 12 e → Sounds 14 (requests_bytes e ++ [])

@@ -1,4 +1,5 @@
 -- What is written are bytes, where the parts are.
+use Rattle.std.specs.Prelude.{Some, None}
 use Prim.Native.Nat.{ℕ, zero, suc, ◌+◌, ◌-◌, ◌/◌, ◌%◌, ◌^◌, ◌<◌, ◌≤◌}
 use mathlib.Core.List.{List, [], ◌∷◌, ◌++◌}
 use mathlib.Core.Bool.{Bool, true, false, cond, ◌||◌}
@@ -10,8 +11,7 @@ use lib.ListN.{length, length-append}
 use lib.Dec.{ltb, leb, eqb, lit<}
 use Rattle.der.specs.Head.{head_bytes}
 use Rattle.der.proofs.HeadLaws.{cond_both, cond-case}
-use Rattle.protocol.specs.declared.FailureInfo.{FailureInfo}
-use Rattle.protocol.specs.declared.FailureInfo.TheVariants.{NoBit, Bit}
+use Rattle.protocol.specs.Types.{FailureInfo}
 use Rattle.protocol.specs.declared.Outgoing.{Outgoing}
 use Rattle.protocol.specs.Bytes.{zeros, bytes_of}
 use Rattle.encoding.specs.Element.{element, field, wrapped, optional, integer_bytes, integer}
@@ -114,8 +114,8 @@ fine_wrapped tag (some e) rest t b f = fine_element tag (e ++ []) rest t (fine_c
 
 fine_failure : (f : FailureInfo) → Fine (optional 0x03 (failure_bits f) ++ [])
 unfolding optional
-fine_failure NoBit = fine_none
-fine_failure (Bit b) = fine_leaf 0x03 (bit_content b) [] (lit< tt) (bit-bytes b) fine_none
+fine_failure None = fine_none
+fine_failure (Some b) = fine_leaf 0x03 (bit_content b) [] (lit< tt) (bit-bytes b) fine_none
 
 fine_status : (s : ℕ) (f : FailureInfo) (rest : List ℕ) → s < 4294967296 → Fine rest → Fine (status_bytes s (failure_bits f) ++ rest)
 unfolding status_bytes
@@ -164,12 +164,12 @@ module _ (g : Given) (o : Outgoing) (typed : GivenTyped g) (types : OrderTyped o
       (fine_element 0x30 _ [] (lit< tt)
       (fine_element 0x30 _ [] (lit< tt)
       (fine_integer o.contents.number _ types.number
-      (fine_status o.contents.status NoBit _ types.status (pair_bytes g.certificate typed.certificate))) fine_none) fine_none)
+      (fine_status o.contents.status None _ types.status (pair_bytes g.certificate typed.certificate))) fine_none) fine_none)
       fine_none
 
   confirm_bytes : (b : Bool) → Fine (cond b [] (status_bytes o.contents.status none) ++ [])
   confirm_bytes true = fine_none
-  confirm_bytes false = fine_status o.contents.status NoBit [] types.status fine_none
+  confirm_bytes false = fine_status o.contents.status None [] types.status fine_none
 
   confirmations-bytes : Fine (confirmations_bytes o.contents.hash.bytes o.contents.number o.contents.status ++ [])
   unfolding confirmations_bytes

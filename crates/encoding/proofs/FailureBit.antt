@@ -1,4 +1,5 @@
 -- FAILURE BIT: of each failure just its own bit is written.
+use Rattle.std.specs.Prelude.{Some, None}
 use Prim.Native.Nat.{ℕ, suc, ◌+◌, ◌-◌, ◌/◌, ◌%◌, ◌^◌, ◌<◌}
 use mathlib.Core.Path.{◌≡◌, sym, ◌∙◌, ap}
 use mathlib.Core.List.{[], ◌∷◌}
@@ -13,7 +14,6 @@ use lib.Seq.{get_or-append_seam}
 use lib.Pow.{pow-lt}
 use lib.Dec.{lit<}
 use Rattle.der.specs.Head.{byte}
-use Rattle.protocol.specs.declared.FailureInfo.TheVariants.{NoBit, Bit}
 use Rattle.protocol.specs.Bytes.{zeros}
 use Rattle.encoding.specs.Message.{bit_content}
 use Rattle.encoding.specs.FailureBit.{bit_count, bit_set, OnlyBit, FailureBitWritten}
@@ -62,5 +62,5 @@ module _ (b : ℕ) where
 
 -- FAILURE BIT
 pub failure-bit : FailureBitWritten
-failure-bit NoBit = tt
-failure-bit (Bit b) = only-bit b
+failure-bit None = tt
+failure-bit (Some b) = only-bit b

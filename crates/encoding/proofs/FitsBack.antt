@@ -19,12 +19,12 @@ use Rattle.grammar.specs.declared.Message.{Message}
 use Rattle.grammar.specs.declared.pki_body.Contents.{Contents}
 use Rattle.grammar.specs.Span.{part_of}
 use Rattle.grammar.specs.Body.{requests_of, responses_of, p10cr_of, other_of, contents_of}
-use Rattle.grammar.proofs.Places.{Ok}
+use Rattle.grammar.proofs.Places.{NoFault}
 use Rattle.message.specs.Read.{max_message}
 use Rattle.message.proofs.ReadingLaws.{CleanOf, clean_found}
 use Rattle.protocol.specs.declared.Nonce.{Nonce}
 use Rattle.protocol.specs.declared.Hash.{Hash}
-use Rattle.protocol.specs.declared.FailureInfo.{FailureInfo}
+use Rattle.protocol.specs.Types.{FailureInfo}
 use Rattle.protocol.specs.declared.OutgoingContents.{OutgoingContents}
 use Rattle.protocol.specs.declared.Outgoing.{Outgoing}
 use Rattle.protocol.specs.Bytes.{no_nonce, present}
@@ -165,7 +165,7 @@ module _ (m : List ℕ) (bytes : Bytes m) (few : length m < 65536) (e : Entry) w
     requests_in k w rule =
         let x : Entry = (requests_of m w.at).entry in
         let same : e.request ≡ x.request = ap (λ (y : Entry). y.request) w.is ∙ ap (λ (y : Contents). y.entry.request) rule in
-        let ok : Ok (requests_of m w.at).cur = subst (λ (y : Contents). Ok y.cur) rule w.ok in
+        let ok : NoFault (requests_of m w.at).cur = subst (λ (y : Contents). NoFault y.cur) rule w.ok in
         given-fits request_message_fits r
         (same-part request_message_fits e.request x.request r same is (requests_fit m bytes few w.at w.stands ok))
 
@@ -196,7 +196,7 @@ module _ (m : List ℕ) (bytes : Bytes m) (few : length m < 65536) (e : Entry) w
         let x : Entry = (responses_of m w.at).entry in
         let same : e.certificate ≡ x.certificate =
         ap (λ (y : Entry). y.certificate) w.is ∙ ap (λ (y : Contents). y.entry.certificate) rule in
-        let ok : Ok (responses_of m w.at).cur = subst (λ (y : Contents). Ok y.cur) rule w.ok in
+        let ok : NoFault (responses_of m w.at).cur = subst (λ (y : Contents). NoFault y.cur) rule w.ok in
         same-part certificate_fits e.certificate x.certificate r same is (responses_fit m bytes few w.at w.stands ok)
 
     certificate_in_lem : (k : ℕ) → Kind k → BodyWalked m bytes few k e → is_response k ≡ true → if_given certificate_fits r ≡ true

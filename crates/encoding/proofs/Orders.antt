@@ -1,4 +1,5 @@
 -- Every order that a call gives fits.
+use Rattle.std.specs.Prelude.{Ok, Err}
 use Prim.Native.Nat.{ℕ}
 use mathlib.Core.List.{List, [], ◌∷◌}
 use mathlib.Core.Bool.{Bool, true, false, cond, ◌||◌}
@@ -8,15 +9,14 @@ use mathlib.Core.Logic.{◌⊎◌, inl, inr}
 use lib.ListN.{get_elem?}
 use lib.Dec.{leb, eqb}
 use Rattle.der.proofs.HeadLaws.{cond_both, cond-case}
-use Rattle.message.specs.declared.Reading.{Reading}
-use Rattle.message.specs.declared.Reading.TheVariants as read
+use Rattle.message.specs.Types.{Reading}
 use Rattle.message.specs.Read.{reading_of}
 use Rattle.protocol.specs.declared.Board.{Board}
 use Rattle.protocol.specs.declared.TransactionId.{TransactionId}
 use Rattle.protocol.specs.declared.Nonce.{Nonce}
 use Rattle.protocol.specs.declared.FreshNonce.{FreshNonce}
 use Rattle.protocol.specs.declared.Hash.{Hash}
-use Rattle.protocol.specs.declared.FailureInfo.{FailureInfo}
+use Rattle.protocol.specs.Types.{FailureInfo}
 use Rattle.protocol.specs.declared.Outgoing.{Outgoing}
 use Rattle.protocol.specs.declared.Transaction.{Transaction}
 use Rattle.protocol.specs.declared.TransactionTable.{TransactionTable}
@@ -103,8 +103,8 @@ checked_fits pass f t d m = cond-case RegistrarFits (opens m) tt (cond-case Regi
 
 read_fits : (r : Reading) (t : TransactionTable) (d : RegistrarInput) (bytes : List ℕ) → RegistrarFits (registrar_read r t d bytes)
 unfolding registrar_read registrar_fields
-read_fits (read.Refused f) t d bytes = tt
-read_fits (read.Clean m) t d bytes = checked_fits _ _ t d (fields_of bytes m)
+read_fits (Err f) t d bytes = tt
+read_fits (Ok m) t d bytes = checked_fits _ _ t d (fields_of bytes m)
 
 host_fits : (r : Option Transaction) (t : TransactionTable) (ok : Transaction → Bool) (f : Transaction → RegistrarAnswer)
     → ((x : Transaction) → RegistrarFits (f x)) → RegistrarFits (host_step r t ok f)
@@ -153,8 +153,8 @@ board_checked pass x d m = taken-fits x d m
 
 board_read : (r : Reading) (x : Enrolment) (d : EndEntityInput) (bytes : List ℕ) → BoardFits (end_entity_read r x d bytes)
 unfolding end_entity_read
-board_read (read.Refused f) x d bytes = tt
-board_read (read.Clean m) x d bytes = board_checked _ x d (fields_of bytes m)
+board_read (Err f) x d bytes = tt
+board_read (Ok m) x d bytes = board_checked _ x d (fields_of bytes m)
 
 time_out_fits : (x : Enrolment) → BoardFits (end_entity_time_out x)
 unfolding end_entity_time_out

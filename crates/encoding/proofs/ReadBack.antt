@@ -1,4 +1,5 @@
 -- READ BACK: what was written reads clean, and says what was written, for each kind.
+use Rattle.std.specs.Prelude.{Ok}
 use Prim.Native.Nat.{ℕ, ◌<◌, ◌≤◌}
 use mathlib.Core.Path.{◌≡◌, refl, sym, ◌∙◌, ap, subst}
 use mathlib.Core.List.{List, [], ◌++◌}
@@ -15,9 +16,8 @@ use Rattle.grammar.specs.declared.Message.{Message}
 use Rattle.grammar.specs.declared.cursor.Cursor.{Cursor}
 use Rattle.grammar.specs.Body.{requests_of, responses_of, other_of, contents_of}
 use Rattle.grammar.specs.Message.{message_of}
-use Rattle.message.specs.declared.Reading.TheVariants.{Clean}
 use Rattle.message.specs.Read.{max_message, lowest, reading_of}
-use Rattle.protocol.specs.declared.FailureInfo.{FailureInfo}
+use Rattle.protocol.specs.Types.{FailureInfo}
 use Rattle.protocol.specs.declared.OutgoingContents.{OutgoingContents}
 use Rattle.protocol.specs.declared.Outgoing.{Outgoing}
 use Rattle.protocol.specs.Bytes.{bytes_of}
@@ -72,7 +72,7 @@ not_empty g o = some_bytes 0x30 (header_bytes g o ++ (body_bytes g o ++ (field 0
 pub record Reads (g : Given) (o : Outgoing) : Type 0 where
   pub said : Said
   pub found : Message
-  pub clean : reading_of (encode g o) ≡ Clean found
+  pub clean : reading_of (encode g o) ≡ Ok found
   pub back : Back g o said found
   pub tells : Tells g o.kind o.contents said
 

@@ -1,4 +1,5 @@
 -- The same bytes are of the same order and the same given parts; what is protected does not depend on the protection.
+use Rattle.std.specs.Prelude.{Ok, Some, None}
 use Prim.Native.Nat.{ℕ, ◌+◌, ◌-◌, ◌%◌, ◌<◌, ◌≤◌}
 use mathlib.Core.Path.{◌≡◌, refl, sym, ◌∙◌, ap, subst}
 use mathlib.Core.List.{List, [], ◌++◌, append-nil}
@@ -12,10 +13,8 @@ use Rattle.der.specs.Head.{byte, tag_ok, head_of, head_bytes}
 use Rattle.der.specs.declared.head.Head.TheVariants.{Whole}
 use Rattle.der.proofs.OneForm.{read_back}
 use Rattle.grammar.specs.declared.Message.{Message}
-use Rattle.message.specs.declared.Reading.TheVariants.{Clean}
 use Rattle.message.specs.Read.{reading_of}
-use Rattle.protocol.specs.declared.FailureInfo.{FailureInfo}
-use Rattle.protocol.specs.declared.FailureInfo.TheVariants.{NoBit, Bit}
+use Rattle.protocol.specs.Types.{FailureInfo}
 use Rattle.protocol.specs.declared.OutgoingContents.{OutgoingContents}
 use Rattle.protocol.specs.declared.Outgoing.{Outgoing}
 use Rattle.protocol.specs.Message.{is_response, cert_conf, error_kind}
@@ -85,10 +84,10 @@ bit-same a b e =
 optional-same : (f h : FailureInfo) → length (optional 0x03 (failure_bits f)) < 65536
     → optional 0x03 (failure_bits f) ++ [] ≡ optional 0x03 (failure_bits h) ++ [] → f ≡ h
 unfolding optional tag_ok
-optional-same NoBit NoBit few e = refl
-optional-same NoBit (Bit b) few e = absurd (not_nothing 0x03 (bit_content b) (sym e))
-optional-same (Bit a) NoBit few e = absurd (not_nothing 0x03 (bit_content a) e)
-optional-same (Bit a) (Bit b) few e = ap Bit (bit-same a b (element-same 0x03 (bit_content a) (bit_content b) refl few (end_same _ _ e)))
+optional-same None None few e = refl
+optional-same None (Some b) few e = absurd (not_nothing 0x03 (bit_content b) (sym e))
+optional-same (Some a) None few e = absurd (not_nothing 0x03 (bit_content a) e)
+optional-same (Some a) (Some b) few e = ap Some (bit-same a b (element-same 0x03 (bit_content a) (bit_content b) refl few (end_same _ _ e)))
 
 error_same : (s : ℕ) (f h : FailureInfo) → length (error_bytes s f) < 65536 → error_bytes s f ≡ error_bytes s h → f ≡ h
 unfolding error_bytes status_bytes tag_ok
@@ -229,7 +228,7 @@ same_bytes_lem inside inside' g g' o o' room room' typed typed' types types' h h
     let w' = written inside' g' o' room' typed' types' h' in
     let m : List ℕ = encode g o in
     let x : Message = w.found in
-    let clean : Clean w'.found ≡ Clean x = sym w'.clean ∙ ap reading_of (sym e) ∙ w.clean in
+    let clean : Ok w'.found ≡ Ok x = sym w'.clean ∙ ap reading_of (sym e) ∙ w.clean in
     let found : w'.found ≡ x = cc clean in
     let order' : order_of m x o'.contents.failure ≡ o' =
     subst (λ (y : Message). order_of m y o'.contents.failure ≡ o') found

@@ -1,4 +1,5 @@
 -- PKIStatusInfo, read where it was written, and its failure bit.
+use Rattle.std.specs.Prelude.{Some, None}
 use Prim.Native.Nat.{ℕ, suc, ◌+◌, ◌-◌, ◌/◌, ◌%◌, ◌^◌, ◌<◌}
 use mathlib.Core.Path.{◌≡◌, refl, sym, ◌∙◌, ap, subst}
 use mathlib.Core.List.{List, [], ◌∷◌, ◌++◌}
@@ -16,8 +17,7 @@ use Rattle.grammar.specs.declared.cursor.Cursor.{Cursor}
 use Rattle.grammar.specs.declared.parts.Status.{Status}
 use Rattle.grammar.specs.Cursor.{need_of, none_of, done_of, enter_of, leave_of, small_integer_of}
 use Rattle.grammar.specs.Parts.{maybe_text, last_bit_set, fail_info_of, status_of, maybe_status}
-use Rattle.protocol.specs.declared.FailureInfo.{FailureInfo}
-use Rattle.protocol.specs.declared.FailureInfo.TheVariants.{NoBit, Bit}
+use Rattle.protocol.specs.Types.{FailureInfo}
 use Rattle.protocol.specs.Bytes.{zeros}
 use Rattle.protocol.specs.Message.{optional_status}
 use Rattle.encoding.specs.Element.{element, integer_bytes, integer, optional}
@@ -67,8 +67,8 @@ LastSet (some v) = last_bit_set v ≡ true
 
 pub bits-set : (f : FailureInfo) → LastSet (failure_bits f)
 unfolding LastSet
-bits-set NoBit = tt
-bits-set (Bit b) = bit-set b
+bits-set None = tt
+bits-set (Some b) = bit-set b
 
 -- ## Status info
 

@@ -23,7 +23,7 @@ use Rattle.grammar.specs.Span.{part_of}
 use Rattle.grammar.specs.Parts.{found_span, whole_span, found_of, optional_field, field_of, typed_of, typed_field, sequence_of, sequence_field}
 use Rattle.grammar.specs.Header.{name_tag, name_of, names_of, options_of, ids_of, header_of}
 use Rattle.grammar.proofs.CursorLaws.{untrue}
-use Rattle.grammar.proofs.Places.{Ok, ended, left}
+use Rattle.grammar.proofs.Places.{NoFault, ended, left}
 use Rattle.grammar.proofs.PartPlaces.{field_steps, typed_field_steps, sequence_field_steps}
 use Rattle.grammar.proofs.HeaderPlaces.{name_takes, options_in, ids_in}
 use Rattle.protocol.specs.Message.{is_present, optional_part}
@@ -58,7 +58,7 @@ module _ (m : List ℕ) (bytes : Bytes m) (few : length m < 65536) where
     pub into : Holds m (enter_of r) content
     pub after : Stands (suc d) r
 
-  pub need_passes : (d tag : ℕ) (c : Cursor) → Stands (suc d) c → Ok (need_of m tag c) → Passes d tag c (need_of m tag c)
+  pub need_passes : (d tag : ℕ) (c : Cursor) → Stands (suc d) c → NoFault (need_of m tag c) → Passes d tag c (need_of m tag c)
   need_passes d tag c s k =
       let i = need_only m bytes c s.left s.holds tag k in
       let small : length i.content < 65536 = omega (arith, i.took.found.size, i.took.found.high) in
@@ -86,33 +86,33 @@ module _ (m : List ℕ) (bytes : Bytes m) (few : length m < 65536) where
 
   -- the rule takes all that an element holds: this passes the test
   abbrev pub Tests : ℕ → (Cursor → Cursor) → (List ℕ → Bool) → Type 0
-  Tests d f test = (i : Cursor) (x : List ℕ) → Holds m i x → Ok (done_of (f i)) → SoundAt d x → test x ≡ true
+  Tests d f test = (i : Cursor) (x : List ℕ) → Holds m i x → NoFault (done_of (f i)) → SoundAt d x → test x ≡ true
 
   abbrev pub FoundFits : ℕ → (List ℕ → Bool) → Cursor → Type 0
   FoundFits d test r = Stands d r × (if_given test (optional_part m (found_span r)) ≡ true)
 
   pub inside-fits : (d tag : ℕ) (f : Cursor → Cursor) (test : List ℕ → Bool) (c : Cursor) → constructed tag ≡ true → Tests d f test
-      → Stands (suc d) c → Ok (leave_of (need_of m tag c) (done_of (f (enter_of (need_of m tag c)))))
+      → Stands (suc d) c → NoFault (leave_of (need_of m tag c) (done_of (f (enter_of (need_of m tag c)))))
       → FoundFits (suc d) test (leave_of (need_of m tag c) (done_of (f (enter_of (need_of m tag c)))))
   inside-fits d tag f test c con rule s k =
       let o : Cursor = need_of m tag c in
       let l = left o (done_of (f (enter_of o))) k in
-      let p = need_passes d tag c s (subst Ok l.1 k) in
+      let p = need_passes d tag c s (subst NoFault l.1 k) in
       let t : test p.content ≡ true = rule (enter_of o) p.content p.into l.0 (good_below p.good con) in
       subst (FoundFits (suc d) test) (sym l.1) (p.after, part-fits m test (found_span o) (ap test p.inside ∙ t))
 
   -- [n] OPTIONAL around what the rule takes
   pub optional-fits : (d tag : ℕ) (f : Cursor → Cursor) (test : List ℕ → Bool) (c : Cursor) → constructed tag ≡ true → Tests d f test
-      → Stands (suc d) c → Ok (optional_field leave_of m tag f c) → FoundFits (suc d) test (optional_field leave_of m tag f c)
+      → Stands (suc d) c → NoFault (optional_field leave_of m tag f c) → FoundFits (suc d) test (optional_field leave_of m tag f c)
   optional-fits d tag f test c con rule s =
-      cond_both (λ (r : Cursor). Ok r → FoundFits (suc d) test r) (eqb (tag_at m c) tag)
+      cond_both (λ (r : Cursor). NoFault r → FoundFits (suc d) test r) (eqb (tag_at m c) tag)
       (λ q. inside-fits d tag f test c con rule s) (λ q k. (none_stands c s, refl))
 
   -- out again with what was found inside
-  found_stands : {d : ℕ} (o i : Cursor) → (Ok o → Stands d o) → Ok (found_of o i) → Stands d (found_of o i) × Ok i
+  found_stands : {d : ℕ} (o i : Cursor) → (NoFault o → Stands d o) → NoFault (found_of o i) → Stands d (found_of o i) × NoFault i
   unfolding found_of
   found_stands {d} o i f =
-      cond_both (λ (r : Cursor). Ok r → Stands d r × Ok i) (is_ok i)
+      cond_both (λ (r : Cursor). NoFault r → Stands d r × NoFault i) (is_ok i)
       (λ q k.
       let a = f k in
       let h = a.holds in
@@ -120,28 +120,28 @@ module _ (m : List ℕ) (bytes : Bytes m) (few : length m < 65536) where
       (λ q k. untrue (sym q ∙ k))
 
   -- [n] OPTIONAL around one element that is opaque
-  field_stands : (d tag inner : ℕ) (c : Cursor) → Stands (suc d) c → Ok (field_of m tag inner c) → Stands (suc d) (field_of m tag inner c)
+  field_stands : (d tag inner : ℕ) (c : Cursor) → Stands (suc d) c → NoFault (field_of m tag inner c) → Stands (suc d) (field_of m tag inner c)
   unfolding field_of
   field_stands d tag inner c s =
       let o : Cursor = need_of m tag c in
-      cond_both (λ (r : Cursor). Ok r → Stands (suc d) r) (eqb (tag_at m c) tag)
+      cond_both (λ (r : Cursor). NoFault r → Stands (suc d) r) (eqb (tag_at m c) tag)
       (λ q k. (found_stands o (done_of (need_of m inner (enter_of o))) (λ j. (need_passes d tag c s j).after) k).0)
       (λ q k. none_stands c s)
 
   -- ## The header
 
-  pub small_stands : (d : ℕ) (c : Cursor) → Stands (suc d) c → Ok (small_integer_of m c) → Stands (suc d) (small_integer_of m c)
+  pub small_stands : (d : ℕ) (c : Cursor) → Stands (suc d) c → NoFault (small_integer_of m c) → Stands (suc d) (small_integer_of m c)
   unfolding small_integer_of
   small_stands d c s =
-      cond_both (λ (r : Cursor). Ok r → Stands (suc d) r) (ltb 4 ((need_of m 0x02 c).to - (need_of m 0x02 c).from))
+      cond_both (λ (r : Cursor). NoFault r → Stands (suc d) r) (ltb 4 ((need_of m 0x02 c).to - (need_of m 0x02 c).from))
       (λ q. untrue) (λ q k. (need_passes d 0x02 c s k).after)
 
   -- a GeneralName, at depth 3
-  name_stands : (c : Cursor) → Stands 14 c → Ok (name_of m c) → Stands 14 (name_of m c) × (name_fits (part_of m (whole_span c (name_of m c))) ≡ true)
+  name_stands : (c : Cursor) → Stands 14 c → NoFault (name_of m c) → Stands 14 (name_of m c) × (name_fits (part_of m (whole_span c (name_of m c))) ≡ true)
   unfolding name_of
   name_stands c s =
       let tag : ℕ = tag_at m c in
-      cond_both (λ (r : Cursor). Ok r → Stands 14 r × (name_fits (part_of m (whole_span c r)) ≡ true)) (name_tag tag)
+      cond_both (λ (r : Cursor). NoFault r → Stands 14 r × (name_fits (part_of m (whole_span c r)) ≡ true)) (name_tag tag)
       (λ q k.
       let p = need_passes 13 tag c s k in
       let e : List ℕ = element tag p.content in
@@ -154,13 +154,13 @@ module _ (m : List ℕ) (bytes : Bytes m) (few : length m < 65536) where
     sender : name_fits (part_of m n.sender) ≡ true
     recipient : name_fits (part_of m n.recipient) ≡ true
 
-  names_fit : (c : Cursor) → Stands 14 c → Ok (names_of m c).cur → NamesFit (names_of m c)
+  names_fit : (c : Cursor) → Stands 14 c → NoFault (names_of m c).cur → NamesFit (names_of m c)
   unfolding names_of
   names_fit c s k =
       let v : Cursor = small_integer_of m c in
       let n : Cursor = name_of m v in
-      let ok_n : Ok n = (name_takes m n k).along.ok in
-      let ok_v : Ok v = (name_takes m v ok_n).along.ok in
+      let ok_n : NoFault n = (name_takes m n k).along.ok in
+      let ok_v : NoFault v = (name_takes m v ok_n).along.ok in
       let a = name_stands v (small_stands 13 c s ok_v) ok_n in
       let b = name_stands n a.0 k in
       record { after = b.0; sender = a.1; recipient = b.1 }
@@ -169,15 +169,15 @@ module _ (m : List ℕ) (bytes : Bytes m) (few : length m < 65536) where
     after : Stands 14 o.cur
     alg : if_given typed_fits (optional_part m o.protection_alg) ≡ true
 
-  options_fit : (c : Cursor) → Stands 14 c → Ok (options_of m c).cur → OptionsFit (options_of m c)
+  options_fit : (c : Cursor) → Stands 14 c → NoFault (options_of m c).cur → OptionsFit (options_of m c)
   unfolding options_of typed_field
   options_fit c s k =
       let time : Cursor = field_of m 0xA0 0x18 c in
       let alg : Cursor = typed_field m 0xA1 time in
       let sender : Cursor = field_of m 0xA2 0x04 alg in
-      let k3 : Ok sender = (field_steps m 0xA3 0x04 sender k).along.ok in
-      let k2 : Ok alg = (field_steps m 0xA2 0x04 alg k3).along.ok in
-      let k1 : Ok time = (typed_field_steps m 0xA1 time k2).along.ok in
+      let k3 : NoFault sender = (field_steps m 0xA3 0x04 sender k).along.ok in
+      let k2 : NoFault alg = (field_steps m 0xA2 0x04 alg k3).along.ok in
+      let k1 : NoFault time = (typed_field_steps m 0xA1 time k2).along.ok in
       let s1 = field_stands 13 0xA0 0x18 c s k1 in
       let s2 = optional-fits 13 0xA1 (typed_of m) typed_fits time refl (typed_here m bytes few) s1 k2 in
       let s3 = field_stands 13 0xA2 0x04 alg s2.0 k3 in
@@ -187,17 +187,17 @@ module _ (m : List ℕ) (bytes : Bytes m) (few : length m < 65536) where
     text : if_given text_fits (optional_part m i.free_text) ≡ true
     info : if_given info_fits (optional_part m i.general_info) ≡ true
 
-  ids_fit : (c : Cursor) → Stands 14 c → Ok (ids_of m c).cur → IdsFit (ids_of m c)
+  ids_fit : (c : Cursor) → Stands 14 c → NoFault (ids_of m c).cur → IdsFit (ids_of m c)
   unfolding ids_of sequence_field
   ids_fit c s k =
       let id : Cursor = field_of m 0xA4 0x04 c in
       let sender : Cursor = field_of m 0xA5 0x04 id in
       let recip : Cursor = field_of m 0xA6 0x04 sender in
       let text : Cursor = sequence_field m 0xA7 Text recip in
-      let k4 : Ok text = (sequence_field_steps m 0xA8 Info text k).along.ok in
-      let k3 : Ok recip = (sequence_field_steps m 0xA7 Text recip k4).along.ok in
-      let k2 : Ok sender = (field_steps m 0xA6 0x04 sender k3).along.ok in
-      let k1 : Ok id = (field_steps m 0xA5 0x04 id k2).along.ok in
+      let k4 : NoFault text = (sequence_field_steps m 0xA8 Info text k).along.ok in
+      let k3 : NoFault recip = (sequence_field_steps m 0xA7 Text recip k4).along.ok in
+      let k2 : NoFault sender = (field_steps m 0xA6 0x04 sender k3).along.ok in
+      let k1 : NoFault id = (field_steps m 0xA5 0x04 id k2).along.ok in
       let s1 = field_stands 13 0xA4 0x04 c s k1 in
       let s2 = field_stands 13 0xA5 0x04 id s1 k2 in
       let s3 = field_stands 13 0xA6 0x04 sender s2 k3 in
@@ -213,7 +213,7 @@ module _ (m : List ℕ) (bytes : Bytes m) (few : length m < 65536) where
     pub free_text : if_given text_fits (optional_part m h.free_text) ≡ true
     pub general_info : if_given info_fits (optional_part m h.general_info) ≡ true
 
-  pub header-fits : (c : Cursor) → Stands 15 c → Ok (header_of m c).cur → Stands 15 (header_of m c).cur × HeaderFits (header_of m c).header
+  pub header-fits : (c : Cursor) → Stands 15 c → NoFault (header_of m c).cur → Stands 15 (header_of m c).cur × HeaderFits (header_of m c).header
   unfolding header_of
   header-fits c s k =
       let o : Cursor = need_of m 0x30 c in
@@ -221,10 +221,10 @@ module _ (m : List ℕ) (bytes : Bytes m) (few : length m < 65536) where
       let p : Cursor = (options_of m n).cur in
       let i : Cursor = (ids_of m p).cur in
       let l = left o (done_of i) k in
-      let ki : Ok i = (ended i l.0).0 in
-      let kp : Ok p = (ids_in m p ki).along.ok in
-      let kn : Ok n = (options_in m n kp).along.ok in
-      let t = need_passes 14 0x30 c s (subst Ok l.1 k) in
+      let ki : NoFault i = (ended i l.0).0 in
+      let kp : NoFault p = (ids_in m p ki).along.ok in
+      let kn : NoFault n = (options_in m n kp).along.ok in
+      let t = need_passes 14 0x30 c s (subst NoFault l.1 k) in
       let names = names_fit (enter_of o) (enter_stands t refl) kn in
       let options = options_fit n names.after kp in
       let ids = ids_fit p options.after ki in (

@@ -1,4 +1,5 @@
 -- WRITTEN: what is written without a refusal reads clean and gives the order and the given parts back; it is a message issued.
+use Rattle.std.specs.Prelude.{Ok}
 use Prim.Native.Nat.{ℕ}
 use mathlib.Core.Path.{◌≡◌, refl, sym, ◌∙◌, ap, subst}
 use mathlib.Core.List.{List}
@@ -13,8 +14,7 @@ use Rattle.grammar.specs.declared.Span.{Span}
 use Rattle.grammar.specs.declared.Entry.{Entry}
 use Rattle.grammar.specs.declared.Message.{Message}
 use Rattle.grammar.specs.Span.{part_of}
-use Rattle.message.specs.declared.Reading.{Reading}
-use Rattle.message.specs.declared.Reading.TheVariants.{Clean}
+use Rattle.message.specs.Types.{Reading}
 use Rattle.message.specs.Read.{reading_of}
 use Rattle.protocol.specs.declared.OutgoingContents.{OutgoingContents}
 use Rattle.protocol.specs.declared.Outgoing.{Outgoing}
@@ -197,7 +197,7 @@ written inside g o room typed types h =
 
 -- the order alone
 pub order-back : (inside : Bool) (g : Given) (o : Outgoing) (room : ℕ) → GivenTyped g → OrderTyped o → refusal_of inside g o room ≡ 0
-    → (found : Message) × (reading_of (encode g o) ≡ Clean found) × (order_of (encode g o) found o.contents.failure ≡ o)
+    → (found : Message) × (reading_of (encode g o) ≡ Ok found) × (order_of (encode g o) found o.contents.failure ≡ o)
 order-back inside g o room typed types h = let w = written inside g o room typed types h in (w.found, w.clean, w.order)
 
 -- ISSUED: bytes written from an order are a message issued by the end that gave it

@@ -1,4 +1,5 @@
 -- The kinds that are written, and what the test of an order (36) gives for each: its contents, and what of the caller's it has.
+use Rattle.std.specs.Prelude.{Some, None}
 use Prim.Native.Nat.{ℕ, ◌+◌, ◌≤◌}
 use mathlib.Core.Path.{◌≡◌, refl, sym, ◌∙◌, ap, subst}
 use mathlib.Core.List.{List, [], ◌∷◌}
@@ -12,8 +13,7 @@ use Rattle.der.specs.Element.{constructed, form_ok}
 use Rattle.der.proofs.Auto.{and_left, and_right}
 use Rattle.der.proofs.HeadLaws.{cond_both}
 use Rattle.protocol.specs.declared.Hash.{Hash}
-use Rattle.protocol.specs.declared.FailureInfo.{FailureInfo}
-use Rattle.protocol.specs.declared.FailureInfo.TheVariants.{NoBit, Bit}
+use Rattle.protocol.specs.Types.{FailureInfo}
 use Rattle.protocol.specs.declared.OutgoingContents.{OutgoingContents}
 use Rattle.protocol.specs.Bytes.{zeros, no_hash}
 use Rattle.protocol.specs.Message.{is_enrolment_kind, is_response, cert_conf, pki_conf, error_kind}
@@ -122,9 +122,9 @@ blank-is (x ∷ s) h =
     let f : s ≡ zeros (length s) = blank-is s (and_right (eqb x 0) (blank s) h) in
     λ i. e i ∷ f i
 
-no_bit_lem : (f : FailureInfo) → no_bit f ≡ true → f ≡ NoBit
-no_bit_lem NoBit h = refl
-no_bit_lem (Bit b) h = absurd (true≢false (sym h))
+no_bit_lem : (f : FailureInfo) → no_bit f ≡ true → f ≡ None
+no_bit_lem None h = refl
+no_bit_lem (Some b) h = absurd (true≢false (sym h))
 
 not_there : (there unset : Bool) → has_just false there unset ≡ true → (there ≡ false) × (unset ≡ true)
 not_there true unset h = absurd (true≢false (sym h))
@@ -191,7 +191,7 @@ module _ (c : OutgoingContents) (size : length c.hash.bytes ≡ 32) where
   no_status e = (not_there c.has_status _ (with_parts false false false false e).status).0
 
 -- only an error has a failure bit
-pub no_failure : (s n h : Bool) (c : OutgoingContents) → contents_with s n h false c ≡ true → c.failure ≡ NoBit
+pub no_failure : (s n h : Bool) (c : OutgoingContents) → contents_with s n h false c ≡ true → c.failure ≡ None
 unfolding contents_with
 no_failure s n h c e =
     let r1 = and_right (has_just s c.has_status (eqb c.status 0)) _ e in

@@ -1,11 +1,10 @@
 -- Which bit of a failInfo is set, as X.690 has a BIT STRING's content (8.6.2): a first byte that says how many bits of the last byte are
 -- unused, then the bits in order, from the most significant bit of the first byte after it to its least significant one, then those of the
 -- second, and so on.
-use Rattle.std.specs.Prelude.{ℕ, ◌+◌, ◌-◌, ◌*◌, ◌/◌, ◌%◌, ◌^◌, ◌<◌, List, Bool, true, ◌≡◌, ◌↔◌, length, eqb}
+use Rattle.std.specs.Prelude.{ℕ, ◌+◌, ◌-◌, ◌*◌, ◌/◌, ◌%◌, ◌^◌, ◌<◌, List, Bool, true, ◌≡◌, ◌↔◌, length, eqb, Some, None}
 use Rattle.std.proofs.Math.Option.{Option, none, some}
 use Rattle.der.specs.Head.{byte}
-use Rattle.protocol.specs.declared.FailureInfo.{FailureInfo}
-use Rattle.protocol.specs.declared.FailureInfo.TheVariants.{NoBit, Bit}
+use Rattle.protocol.specs.Types.{FailureInfo}
 use Rattle.encoding.specs.Message.{failure_bits}
 
 -- how many bits there are: eight in each byte after the first, less the unused ones
@@ -23,10 +22,10 @@ pub record OnlyBit (b : ℕ) (v : List ℕ) : Type 0 where
 
 -- no failInfo without a bit; with one, just that bit
 abbrev pub WritesFailure : FailureInfo → Option (List ℕ) → Type 0
-WritesFailure NoBit none = Unit {0}
-WritesFailure NoBit (some v) = ⊥
-WritesFailure (Bit b) none = ⊥
-WritesFailure (Bit b) (some v) = OnlyBit b v
+WritesFailure None none = Unit {0}
+WritesFailure None (some v) = ⊥
+WritesFailure (Some b) none = ⊥
+WritesFailure (Some b) (some v) = OnlyBit b v
 
 -- of each failure its own bit is written
 abbrev pub FailureBitWritten : Type 0

@@ -1,6 +1,6 @@
 -- Refusal 36: "a given element or field doesn't fit document 01's grammar at its place". A given part is read alone, by the reader's own
 -- rule, with the levels that are left at its place; it is one element. An order is of a kind that is written, and has what its kind has.
-use Rattle.std.specs.Prelude.{ℕ, List, [], ◌∷◌, Bool, true, false, not, cond, ◌&&◌, ◌||◌, eqb}
+use Rattle.std.specs.Prelude.{ℕ, List, [], ◌∷◌, Bool, true, false, not, cond, ◌&&◌, ◌||◌, eqb, Some, None}
 use Rattle.std.proofs.Math.Option.{Option, none, some}
 use Rattle.der.specs.Head.{byte}
 use Rattle.der.specs.Content.{bit_string_ok}
@@ -10,8 +10,7 @@ use Rattle.grammar.specs.Parts.{typed_of, sequence_of}
 use Rattle.grammar.specs.Entries.{request_of}
 use Rattle.grammar.specs.Header.{name_tag}
 use Rattle.grammar.specs.Alone.{alone}
-use Rattle.protocol.specs.declared.FailureInfo.{FailureInfo}
-use Rattle.protocol.specs.declared.FailureInfo.TheVariants.{NoBit, Bit}
+use Rattle.protocol.specs.Types.{FailureInfo}
 use Rattle.protocol.specs.declared.OutgoingContents.{OutgoingContents}
 use Rattle.protocol.specs.declared.Outgoing.{Outgoing}
 use Rattle.protocol.specs.Message.{is_enrolment_kind, is_response, p10cr, cert_conf, pki_conf, error_kind}
@@ -84,8 +83,8 @@ has_just true there unset = there
 has_just false there unset = not there && unset
 
 abbrev pub no_bit : FailureInfo → Bool
-no_bit NoBit = true
-no_bit (Bit b) = false
+no_bit None = true
+no_bit (Some b) = false
 
 -- contents with just these: a status, a number, a hash; perhaps a failure bit
 unfoldable pub contents_with : (status number hash bit : Bool) → OutgoingContents → Bool

@@ -1,9 +1,8 @@
 -- Refusal 36 from the other side: "a given element or field doesn't fit document 01's grammar at its place". An order and its parts fit
 -- exactly if the order is of a kind that is written, and the bytes with each part at its place are read clean, give the order back and have
 -- every part there, so that no test of `Fits`, of a given part or of the order, is too strict or too weak: none stands on the right.
-use Rattle.std.specs.Prelude.{ℕ, ◌≤◌, Bool, true, false, ◌&&◌, ◌||◌, ◌≡◌, ◌⊎◌, ◌↔◌, length, eqb}
+use Rattle.std.specs.Prelude.{ℕ, ◌≤◌, Bool, true, false, ◌&&◌, ◌||◌, ◌≡◌, ◌⊎◌, ◌↔◌, length, eqb, Ok}
 use Rattle.grammar.specs.declared.Message.{Message}
-use Rattle.message.specs.declared.Reading.TheVariants.{Clean}
 use Rattle.message.specs.Read.{max_message, reading_of}
 use Rattle.protocol.specs.declared.Outgoing.{Outgoing}
 use Rattle.protocol.specs.Bytes.{present}
@@ -38,7 +37,7 @@ pub record FitsInPlace (g : Given) (o : Outgoing) : Type 0 where
   -- the bytes with each part at its place are read clean; the order is read back, so that it has what its kind has and nothing else is
   -- set in it; and each part is found at its place
   pub found : Message
-  pub clean : reading_of (encode g o) ≡ Clean found
+  pub clean : reading_of (encode g o) ≡ Ok found
   pub order : order_of (encode g o) found o.contents.failure ≡ o
   pub given : GivenBack (encode g o) g o found
 

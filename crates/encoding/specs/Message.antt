@@ -1,9 +1,8 @@
 -- A message as it is written, in the order of document 01, "The parts of a message": the order and what the caller gives. The parts of an
 -- order or a caller that do not fit are written all the same, so that every message has its length; `Fits` tells which are refused.
-use Rattle.std.specs.Prelude.{ℕ, ◌+◌, ◌-◌, ◌/◌, ◌%◌, ◌^◌, List, [], ◌∷◌, ◌++◌, cond, eqb}
+use Rattle.std.specs.Prelude.{ℕ, ◌+◌, ◌-◌, ◌/◌, ◌%◌, ◌^◌, List, [], ◌∷◌, ◌++◌, cond, eqb, Some, None}
 use Rattle.std.proofs.Math.Option.{Option, none, some}
-use Rattle.protocol.specs.declared.FailureInfo.{FailureInfo}
-use Rattle.protocol.specs.declared.FailureInfo.TheVariants.{NoBit, Bit}
+use Rattle.protocol.specs.Types.{FailureInfo}
 use Rattle.protocol.specs.declared.OutgoingContents.{OutgoingContents}
 use Rattle.protocol.specs.declared.Outgoing.{Outgoing}
 use Rattle.protocol.specs.Bytes.{zeros, bytes_of}
@@ -43,8 +42,8 @@ unfoldable pub bit_content : ℕ → List ℕ
 bit_content b = (7 - b % 8) ∷ (zeros (b / 8) ++ ((2 ^ (7 - b % 8)) ∷ []))
 
 abbrev pub failure_bits : FailureInfo → Option (List ℕ)
-failure_bits NoBit = none
-failure_bits (Bit b) = some (bit_content b)
+failure_bits None = none
+failure_bits (Some b) = some (bit_content b)
 
 -- a status and perhaps a failInfo
 unfoldable pub status_bytes : ℕ → Option (List ℕ) → List ℕ

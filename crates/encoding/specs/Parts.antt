@@ -7,7 +7,7 @@ use Rattle.grammar.specs.Cursor.{is_ok, need_of, any_of, enter_of, content_of, v
 use Rattle.grammar.specs.Span.{part_of}
 use Rattle.grammar.specs.Parts.{whole_span}
 use Rattle.grammar.specs.Message.{start_at}
-use Rattle.protocol.specs.declared.FailureInfo.{FailureInfo}
+use Rattle.protocol.specs.Types.{FailureInfo}
 use Rattle.protocol.specs.declared.OutgoingContents.{OutgoingContents}
 use Rattle.protocol.specs.declared.Outgoing.{Outgoing}
 use Rattle.protocol.specs.Bytes.{bytes_of}

@@ -1,13 +1,12 @@
 -- "Reading what was written gives the order back": what the reader finds in the bytes that are written, the order and each given part.
-use Rattle.std.specs.Prelude.{ℕ, ◌<◌, ◌^◌, List, ◌++◌, Bool, cond, ◌||◌, ◌≡◌, length, eqb}
+use Rattle.std.specs.Prelude.{ℕ, ◌<◌, ◌^◌, List, ◌++◌, Bool, cond, ◌||◌, ◌≡◌, length, eqb, Ok}
 use Rattle.std.proofs.Math.Option.{Option, none, some}
 use Rattle.der.specs.Head.{byte}
 use Rattle.grammar.specs.declared.Entry.{Entry}
 use Rattle.grammar.specs.declared.Message.{Message}
 use Rattle.grammar.specs.Span.{part_of}
-use Rattle.message.specs.declared.Reading.TheVariants.{Clean}
 use Rattle.message.specs.Read.{reading_of}
-use Rattle.protocol.specs.declared.FailureInfo.{FailureInfo}
+use Rattle.protocol.specs.Types.{FailureInfo}
 use Rattle.protocol.specs.declared.OutgoingContents.{OutgoingContents}
 use Rattle.protocol.specs.declared.Outgoing.{Outgoing}
 use Rattle.protocol.specs.Bytes.{no_nonce}
@@ -134,7 +133,7 @@ ProtectionApart =
 -- the bytes read clean, and as the order and the given parts; for demand 3 they carry the order
 pub record ReadsBack (g : Given) (o : Outgoing) : Type 0 where
   pub found : Message
-  pub clean : reading_of (encode g o) ≡ Clean found
+  pub clean : reading_of (encode g o) ≡ Ok found
   pub order : order_of (encode g o) found o.contents.failure ≡ o
   pub given : GivenBack (encode g o) g o found
   pub carries : Carries (encode g o) found o

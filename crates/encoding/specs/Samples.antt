@@ -1,8 +1,7 @@
 -- Orders of all ten kinds, each with the body that is written or refused by 36: one list, checked by computing it.
-use Rattle.std.specs.Prelude.{ℕ, zero, suc, List, [], ◌∷◌, ◌++◌, Bool, true, ◌&&◌, ◌≡◌, replicate, eqb}
+use Rattle.std.specs.Prelude.{ℕ, zero, suc, List, [], ◌∷◌, ◌++◌, Bool, true, ◌&&◌, ◌≡◌, replicate, eqb, Some, None}
 use Rattle.std.proofs.Math.Option.{Option, none, some}
-use Rattle.protocol.specs.declared.FailureInfo.{FailureInfo}
-use Rattle.protocol.specs.declared.FailureInfo.TheVariants.{NoBit, Bit}
+use Rattle.protocol.specs.Types.{FailureInfo}
 use Rattle.protocol.specs.declared.OutgoingContents.{OutgoingContents}
 use Rattle.protocol.specs.declared.Outgoing.{Outgoing}
 use Rattle.protocol.specs.Bytes.{same_bytes}
@@ -103,10 +102,10 @@ written_ones =
     ∷ written 24 (confirmation 0) none none ((0xB8 ∷ 0x29 ∷ 0x30 ∷ 0x27 ∷ 0x30 ∷ 0x25 ∷ 0x04 ∷ 0x20 ∷ []) ++ (replicate 32 0xAB ++ (0x02 ∷ 0x01 ∷ 0x00 ∷ [])))
     ∷ written 24 (confirmation 2) none none ((0xB8 ∷ 0x2E ∷ 0x30 ∷ 0x2C ∷ 0x30 ∷ 0x2A ∷ 0x04 ∷ 0x20 ∷ []) ++ (replicate 32 0xAB ++ (0x02 ∷ 0x01 ∷ 0x00 ∷ 0x30 ∷ 0x03 ∷ 0x02 ∷ 0x01 ∷ 0x02 ∷ [])))
     ∷ written 19 no_contents none none (0xB3 ∷ 0x02 ∷ 0x05 ∷ 0x00 ∷ [])
-    ∷ written 23 (failure NoBit) none none (0xB7 ∷ 0x07 ∷ 0x30 ∷ 0x05 ∷ 0x30 ∷ 0x03 ∷ 0x02 ∷ 0x01 ∷ 0x02 ∷ [])
-    ∷ written 23 (failure (Bit 5)) none none (0xB7 ∷ 0x0B ∷ 0x30 ∷ 0x09 ∷ 0x30 ∷ 0x07 ∷ 0x02 ∷ 0x01 ∷ 0x02 ∷ 0x03 ∷ 0x02 ∷ 0x02 ∷ 0x04 ∷ [])
-    ∷ written 23 (failure (Bit 13)) none none (0xB7 ∷ 0x0C ∷ 0x30 ∷ 0x0A ∷ 0x30 ∷ 0x08 ∷ 0x02 ∷ 0x01 ∷ 0x02 ∷ 0x03 ∷ 0x03 ∷ 0x02 ∷ 0x00 ∷ 0x04 ∷ [])
-    ∷ written 23 (failure (Bit 25)) none none (0xB7 ∷ 0x0E ∷ 0x30 ∷ 0x0C ∷ 0x30 ∷ 0x0A ∷ 0x02 ∷ 0x01 ∷ 0x02 ∷ 0x03 ∷ 0x05 ∷ 0x06 ∷ 0x00 ∷ 0x00 ∷ 0x00 ∷ 0x40 ∷ [])
+    ∷ written 23 (failure None) none none (0xB7 ∷ 0x07 ∷ 0x30 ∷ 0x05 ∷ 0x30 ∷ 0x03 ∷ 0x02 ∷ 0x01 ∷ 0x02 ∷ [])
+    ∷ written 23 (failure (Some 5)) none none (0xB7 ∷ 0x0B ∷ 0x30 ∷ 0x09 ∷ 0x30 ∷ 0x07 ∷ 0x02 ∷ 0x01 ∷ 0x02 ∷ 0x03 ∷ 0x02 ∷ 0x02 ∷ 0x04 ∷ [])
+    ∷ written 23 (failure (Some 13)) none none (0xB7 ∷ 0x0C ∷ 0x30 ∷ 0x0A ∷ 0x30 ∷ 0x08 ∷ 0x02 ∷ 0x01 ∷ 0x02 ∷ 0x03 ∷ 0x03 ∷ 0x02 ∷ 0x00 ∷ 0x04 ∷ [])
+    ∷ written 23 (failure (Some 25)) none none (0xB7 ∷ 0x0E ∷ 0x30 ∷ 0x0C ∷ 0x30 ∷ 0x0A ∷ 0x02 ∷ 0x01 ∷ 0x02 ∷ 0x03 ∷ 0x05 ∷ 0x06 ∷ 0x00 ∷ 0x00 ∷ 0x00 ∷ 0x40 ∷ [])
     ∷ []
 
 unfoldable pub refused_ones : List Sample
@@ -126,7 +125,7 @@ refused_ones =
     ∷ refused 8 (response 0 0) none (some (nest 10))
     ∷ refused 3 no_contents none none
     ∷ refused 19 no_contents (some asked) none
-    ∷ refused 19 (failure NoBit) none none
+    ∷ refused 19 (failure None) none none
     ∷ refused 24 no_contents none none
     ∷ refused 23 no_contents none none
     ∷ refused 5 no_contents none none

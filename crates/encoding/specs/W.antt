@@ -1,8 +1,7 @@
 -- W, "one message byte for byte" (document 01): what is given, the order, and the bytes.
-use Rattle.std.specs.Prelude.{ℕ, ◌≡◌, List, [], ◌∷◌, ◌++◌, true, replicate, length}
+use Rattle.std.specs.Prelude.{ℕ, ◌≡◌, List, [], ◌∷◌, ◌++◌, true, replicate, length, None}
 use Rattle.std.proofs.Math.Option.{none, some}
 use Rattle.protocol.specs.declared.Outgoing.{Outgoing}
-use Rattle.protocol.specs.declared.FailureInfo.TheVariants.{NoBit}
 use Rattle.encoding.specs.Given.{Given}
 use Rattle.encoding.specs.Message.{encode}
 use Rattle.encoding.specs.Write.{refusal_of}
@@ -35,7 +34,7 @@ order = record {
         has_status = true;
         status = 0;
         hash = record { bytes = replicate 32 0xAB };
-        failure = NoBit;
+        failure = None;
         has_number = true;
         number = 0;
       };

@@ -1,4 +1,5 @@
 -- What becomes of a message that reads, by the number of the row that refuses it; and the nonce that it is answered by.
+use Rattle.std.specs.Prelude.{Err}
 use Prim.Native.Nat.{ℕ}
 use mathlib.Core.List.{List}
 use mathlib.Core.Bool.{true, false}
@@ -7,8 +8,7 @@ use borrow.Author.Tests.{ne_eqb}
 use Rattle.grammar.specs.declared.Message.{Message}
 use Rattle.message.specs.Read.{reading_of}
 use Rattle.message.specs.declared.ReadFault.{ReadFault}
-use Rattle.message.specs.declared.Reading.{Reading}
-use Rattle.message.specs.declared.Reading.TheVariants as read
+use Rattle.message.specs.Types.{Reading}
 use Rattle.protocol.specs.declared.Nonce.{Nonce}
 use Rattle.protocol.specs.declared.Enrolment.{Enrolment}
 use Rattle.protocol.specs.declared.EnrolmentState.TheVariants.{Failed}
@@ -78,6 +78,6 @@ answered x d bytes m n e q =
 
 -- ## A message that does not read
 
-pub unread_at : (x : Enrolment) (d : EndEntityInput) (bytes : List ℕ) (r : Reading) (f : ReadFault) → r ≡ read.Refused f → r ≡ reading_of bytes → enrolment_unread (fault_of r) x ≡ end_entity_message x d bytes
+pub unread_at : (x : Enrolment) (d : EndEntityInput) (bytes : List ℕ) (r : Reading) (f : ReadFault) → r ≡ Err f → r ≡ reading_of bytes → enrolment_unread (fault_of r) x ≡ end_entity_message x d bytes
 unfolding end_entity_message end_entity_read
 unread_at x d bytes r f e q = rw (← q, e)

@@ -17,7 +17,7 @@ use crate::rows::lowest_refusal;
 use crate::states::{assured_state, broken_state, is_awaiting};
 use grammar::Message;
 use incoming::rows::{fault_of, status_or_0};
-use message::{Reading, read};
+use message::read;
 use parts::nonce_of;
 use protocol::kinds::{ERROR, PKI_CONF, is_response, is_starting_kind};
 use protocol::{
@@ -96,7 +96,7 @@ pub fn message(enrolment: Enrolment, bytes: &[u8], input: EndEntityInput) -> End
     ensures { result ≡ end_entity_message enrolment input bytes.now }
 {
     let reading = read(bytes);
-    let Reading::Clean(m) = reading else {
+    let Ok(m) = reading else {
         return unread(enrolment, fault_of(reading));
     };
     checked(enrolment, bytes, m, input)

@@ -1,5 +1,5 @@
 -- What the host is answered: a reading as numbers at fixed places.
-use Rattle.std.specs.Prelude.{ℕ, ◌+◌, ◌*◌, List, cond, length, set, ltb}
+use Rattle.std.specs.Prelude.{ℕ, ◌+◌, ◌*◌, List, cond, length, set, ltb, Ok, Err}
 use Rattle.der.specs.Element.{check}
 use Rattle.der.specs.declared.element.Check.{Check}
 use Rattle.der.specs.declared.element.Check.TheVariants.{Sound, Fault}
@@ -8,8 +8,7 @@ use Rattle.grammar.specs.declared.Header.{Header}
 use Rattle.grammar.specs.declared.Entry.{Entry}
 use Rattle.grammar.specs.declared.Body.{Body}
 use Rattle.grammar.specs.declared.Message.{Message}
-use Rattle.message.specs.declared.Reading.{Reading}
-use Rattle.message.specs.declared.Reading.TheVariants.{Clean, Refused}
+use Rattle.message.specs.Types.{Reading}
 use Rattle.message.specs.Read.{reading_of, protected_length}
 
 -- ## The check
@@ -87,12 +86,12 @@ put_message m l =
 -- ## The answer
 
 abbrev pub read_number : Reading → ℕ
-read_number (Clean m) = 0
-read_number (Refused f) = f.number
+read_number (Ok m) = 0
+read_number (Err f) = f.number
 
 abbrev pub read_numbers : Reading → List ℕ → List ℕ
-read_numbers (Clean m) l = put_message m l
-read_numbers (Refused f) l = put_number 1 f.rule (put_number 0 f.at.0 l)
+read_numbers (Ok m) l = put_message m l
+read_numbers (Err f) l = put_number 1 f.rule (put_number 0 f.at.0 l)
 
 -- 255 where there is no room
 unfoldable pub read_answer : List ℕ → List ℕ → ℕ

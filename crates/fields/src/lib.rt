@@ -8,7 +8,6 @@ ghost use Rattle.fields.specs.Fields.{check_answer, read_answer, read_fields};
 
 use crate::places::{put_message, put_size, put_small};
 use der::element::{Check, check_elements};
-use message::Reading;
 
 // How many numbers there are.
 pub const FIELDS: usize = 47;
@@ -44,11 +43,11 @@ pub fn read_into(message: &[u8], fields: &mut [u64]) -> u64
     }
     let r = message::read(message);
     match r {
-        Reading::Clean(m) => {
+        Ok(m) => {
             put_message(fields, m);
             0
         }
-        Reading::Refused(fault) => {
+        Err(fault) => {
             let at = fault.at;
             put_size(fields, 0, at.0);
             put_small(fields, 1, fault.rule);

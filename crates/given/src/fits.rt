@@ -262,8 +262,8 @@ fn no_bit(f: FailureInfo) -> bool
     ensures { result ≡ no_bit f }
 {
     match f {
-        FailureInfo::NoBit => true,
-        FailureInfo::Bit(_) => false,
+        None => true,
+        Some(_) => false,
     }
 }
 

@@ -18,7 +18,7 @@ use Rattle.grammar.specs.Parts.{sequence_field}
 use Rattle.grammar.specs.Entries.{entries_of, only_of}
 use Rattle.grammar.specs.Body.{at_least_one, requests_of, responses_of, confirmations_of, error_of, plain, p10cr_of, other_of, contents_of, body_tag, body_of}
 use Rattle.grammar.proofs.CursorLaws.{untrue}
-use Rattle.grammar.proofs.Places.{Ok, wide, Went, Took, Takes, ◌then◌, need_takes, any-takes, ended, left, at_leave, Nest, nest}
+use Rattle.grammar.proofs.Places.{NoFault, wide, Went, Took, Takes, ◌then◌, need_takes, any-takes, ended, left, at_leave, Nest, nest}
 use Rattle.grammar.proofs.PartPlaces.{Between, no_span_lem, whole_span_lem, found_span_lem, sequence_field_steps}
 use Rattle.grammar.proofs.EntryPlaces.{EntryIn, no_entry_lem, entry_wide, entries_in, only_in_lem}
 
@@ -29,14 +29,14 @@ pub record ContentsIn (c : Cursor) (k : Contents) : Type 0 where
   pub entry : EntryIn c.at k.cur.at k.entry
 
 abbrev pub Holds : Cursor → Contents → Type 0
-Holds c k = Ok k.cur → ContentsIn c k
+Holds c k = NoFault k.cur → ContentsIn c k
 
 -- all that an element holds lies in the bytes of the element
-in_element : {c s x : Cursor} (i : Cursor) (o : Ok (leave_of s i)) → Nest c s x → (c.at ≤ s.from) × (s.to ≤ (leave_of s i).at)
+in_element : {c s x : Cursor} (i : Cursor) (o : NoFault (leave_of s i)) → Nest c s x → (c.at ≤ s.from) × (s.to ≤ (leave_of s i).at)
 in_element {c} {s} i o v = omega (arith, v.took, ap (λ (j : Cursor). j.at) (left s i o).1)
 
 -- a SEQUENCE of entries, and nothing else
-entries_hold : (m : List ℕ) (what : EntryKind) (c i : Cursor) → (Ok i → Ok (entries_of m what (enter_of (need_of m 0x30 c))).cur) → Ok (leave_of (need_of m 0x30 c) i) → EntryIn c.at (leave_of (need_of m 0x30 c) i).at (only_of (entries_of m what (enter_of (need_of m 0x30 c))))
+entries_hold : (m : List ℕ) (what : EntryKind) (c i : Cursor) → (NoFault i → NoFault (entries_of m what (enter_of (need_of m 0x30 c))).cur) → NoFault (leave_of (need_of m 0x30 c) i) → EntryIn c.at (leave_of (need_of m 0x30 c) i).at (only_of (entries_of m what (enter_of (need_of m 0x30 c))))
 entries_hold m what c i f k =
     let s : Cursor = need_of m 0x30 c in
     let w = entries_in m what (enter_of s) (f (left s i k).0) in
@@ -44,9 +44,9 @@ entries_hold m what c i f k =
     let b = in_element i k v in
     entry_wide (omega (arith, v.start)) (omega (arith, v.to)) (only_in_lem w)
 
-at_least_one_lem : (e : Entries) → Ok (at_least_one e) → Ok e.cur
+at_least_one_lem : (e : Entries) → NoFault (at_least_one e) → NoFault e.cur
 unfolding at_least_one
-at_least_one_lem e = cond-case (λ (c : Cursor). Ok c → Ok e.cur) (eqb e.count 0) untrue (λ k. k)
+at_least_one_lem e = cond-case (λ (c : Cursor). NoFault c → NoFault e.cur) (eqb e.count 0) untrue (λ k. k)
 
 requests_hold : (m : List ℕ) (c : Cursor) → Holds c (requests_of m c)
 unfolding requests_of
@@ -68,7 +68,7 @@ responses_hold m c k =
     let e : Entries = entries_of m of.Response (enter_of q) in
     let x : Cursor = leave_of q e.cur in
     let l = left s (done_of x) k in
-    let kx : Ok x = (ended x l.0).0 in
+    let kx : NoFault x = (ended x l.0).0 in
     let tq : Took a x = at_leave (Took a) e.cur (need_takes m 0x30 a) kx in
     let wa : Went (enter_of s) a = sequence_field_steps m 0xA1 Certificate (enter_of s) tq.along.ok in
     let v : Nest c s x = nest (need_takes m 0x30 c) (wa.along then tq.along) in
@@ -131,7 +131,7 @@ pub record BodyIn (a b : ℕ) (k : Body) : Type 0 where
   pub entry : EntryIn a b k.entry
 
 -- every span of a body lies in the bytes of its element
-pub body_in : (m : List ℕ) (c : Cursor) → Ok (body_of m c).cur → BodyIn c.at (body_of m c).cur.at (body_of m c).body
+pub body_in : (m : List ℕ) (c : Cursor) → NoFault (body_of m c).cur → BodyIn c.at (body_of m c).cur.at (body_of m c).body
 unfolding body_of
 body_in m c k =
     let t : Cursor = body_tag m c in

@@ -14,7 +14,7 @@ use Rattle.grammar.specs.declared.entries.EntryKind.TheVariants as of
 use Rattle.grammar.specs.Cursor.{tag_at, need_of, any_of, none_of, maybe_of, done_of, enter_of, leave_of, small_integer_of, left_at}
 use Rattle.grammar.specs.Parts.{any_field, typed_field, status_of, maybe_status}
 use Rattle.grammar.specs.Entries.{no_entry, request_of, choice_of, key_pair, maybe_key_pair, response_of, cert_status_of, entry_of, no_entries, next, entries_of, only_of}
-use Rattle.grammar.proofs.Places.{Ok, wide, On, Went, Took, Steps, Takes, still, ◌then◌, took_went, steps, need_takes, none_steps, maybe_steps, small-takes, ended, left, at_leave, Nest, nest, found_steps, repeat_keeps, Placed, took_kept}
+use Rattle.grammar.proofs.Places.{NoFault, wide, On, Went, Took, Steps, Takes, still, ◌then◌, took_went, steps, need_takes, none_steps, maybe_steps, small-takes, ended, left, at_leave, Nest, nest, found_steps, repeat_keeps, Placed, took_kept}
 use Rattle.grammar.proofs.PartPlaces.{Between, no_span_lem, whole_span_lem, found_span_lem, status-takes, maybe_status_goes, typed_field_steps}
 
 -- ## What a response may hold
@@ -63,14 +63,14 @@ entry_takes m of.Status c = at_leave (Took c) _ (need_takes m 0x30 c)
 
 -- every span of an entry lies in the bytes of its element
 abbrev pub ItemIn : Cursor → Item → Type 0
-ItemIn c i = Ok i.cur → EntryIn c.at i.cur.at i.entry
+ItemIn c i = NoFault i.cur → EntryIn c.at i.cur.at i.entry
 
 request_in : (m : List ℕ) (c : Cursor) → ItemIn c (request_of m c)
 unfolding request_of
 request_in m c k =
     let s : Cursor = need_of m 0x30 c in
     let l = left s (leave_of (need_of m 0x30 (enter_of s)) (small_integer_of m (enter_of (need_of m 0x30 (enter_of s))))) k in
-    let t : Took c s = need_takes m 0x30 c (subst Ok l.1 k) in
+    let t : Took c s = need_takes m 0x30 c (subst NoFault l.1 k) in
     record { cert_hash = no_span_lem; hash_alg = no_span_lem; certificate = no_span_lem; request = whole_span_lem (omega arith) t.along.on (omega (arith, ap (λ (j : Cursor). j.at) l.1)) }
 
 response_in : (m : List ℕ) (c : Cursor) → ItemIn c (response_of m c)
@@ -129,16 +129,16 @@ pub record EntriesIn (c : Cursor) (e : Entries) : Type 0 where
   pub along : On c e.cur
   pub last : EntryIn c.at e.cur.at e.last
 
-next_in : (m : List ℕ) (what : EntryKind) (c : Cursor) (e : Entries) → (Ok e.cur → EntriesIn c e) → Ok (next m what e).cur → EntriesIn c (next m what e)
+next_in : (m : List ℕ) (what : EntryKind) (c : Cursor) (e : Entries) → (NoFault e.cur → EntriesIn c e) → NoFault (next m what e).cur → EntriesIn c (next m what e)
 next_in m what c e f k =
     let t : Took e.cur (next m what e).cur = entry_takes m what e.cur k in
     let w = f t.along.ok in
     record { along = w.along then t.along; last = entry_wide w.along.on (omega arith) (entry_in m what e.cur k) }
 
-pub entries_in : (m : List ℕ) (what : EntryKind) (c : Cursor) → Ok (entries_of m what c).cur → EntriesIn c (entries_of m what c)
+pub entries_in : (m : List ℕ) (what : EntryKind) (c : Cursor) → NoFault (entries_of m what c).cur → EntriesIn c (entries_of m what c)
 unfolding entries_of
 entries_in m what c =
-    repeat_keeps (λ (e : Entries). e.cur) (next m what) (λ (e : Entries). Ok e.cur → EntriesIn c e) (next_in m what c) (left_at c) (no_entries c)
+    repeat_keeps (λ (e : Entries). e.cur) (next m what) (λ (e : Entries). NoFault e.cur → EntriesIn c e) (next_in m what c) (left_at c) (no_entries c)
     (λ k. record { along = still k; last = no_entry_lem })
 
 pub entries_kept : {n : ℕ} (m : List ℕ) (what : EntryKind) (c : Cursor) → Placed n c → Placed n (entries_of m what c).cur

@@ -26,7 +26,7 @@ use Rattle.grammar.specs.Header.{header_of}
 use Rattle.grammar.specs.Body.{body_of}
 use Rattle.grammar.specs.Message.{start_at, message_of}
 use Rattle.grammar.proofs.CursorLaws.{untrue}
-use Rattle.grammar.proofs.Places.{Ok, Went, Took, Takes, ◌then◌, need_takes, ended, left, at_done, at_leave, Nest, nest}
+use Rattle.grammar.proofs.Places.{NoFault, Went, Took, Takes, ◌then◌, need_takes, ended, left, at_done, at_leave, Nest, nest}
 use Rattle.grammar.proofs.PartPlaces.{Between, no_span_lem, whole_span_lem, field_steps, sequence_field_steps}
 use Rattle.grammar.proofs.HeaderPlaces.{HeaderIn, header-takes, header_in}
 use Rattle.grammar.proofs.BodyPlaces.{BodyIn, body-takes, body_in}
@@ -67,7 +67,7 @@ pub record FoundIn (n : ℕ) (f : Message) : Type 0 where
 
 -- where nothing was found, nothing was passed
 abbrev Bare : Cursor → Cursor → Type 0
-Bare c r = Ok r → r.from ≡ 0 → r.at ≡ c.at
+Bare c r = NoFault r → r.from ≡ 0 → r.at ≡ c.at
 
 found-bare : (c o : Cursor) {i : Cursor} → Takes (enter_of o) i → Bare c (found_of o i)
 unfolding found_of
@@ -92,17 +92,17 @@ outer_in {a} {b} c r h j k = cond-case (Between a b) (eqb r.from 0) no_span_lem 
 outer_next : (c r : Cursor) → Next c.at (outer_span c r)
 outer_next c r = cond-case (Next c.at) (eqb r.from 0) (inl (refl, refl)) (inr refl)
 
-outer_len : (c r : Cursor) → Ok r → Bare c r → (outer_span c r).len ≡ r.at - c.at
+outer_len : (c r : Cursor) → NoFault r → Bare c r → (outer_span c r).len ≡ r.at - c.at
 outer_len c r k f =
     cond_both (λ (s : Span). s.len ≡ r.at - c.at) (eqb r.from 0) (λ q. omega (arith, f k (eqb-true r.from 0 q))) (λ q. refl)
 
 -- an element is read up to its content's end
-need_ends : (m : List ℕ) (tag : ℕ) (c : Cursor) → Ok (need_of m tag c) → (need_of m tag c).to ≡ (need_of m tag c).at
+need_ends : (m : List ℕ) (tag : ℕ) (c : Cursor) → NoFault (need_of m tag c) → (need_of m tag c).to ≡ (need_of m tag c).at
 unfolding need_of
 need_ends m tag c = cond_both Ends (is_ok c) (λ q. past (head_in m c.at c.end)) (λ q k. untrue (sym q ∙ k))
   where
     Ends : Cursor → Type 0
-    Ends r = Ok r → r.to ≡ r.at
+    Ends r = NoFault r → r.to ≡ r.at
 
     past : (h : Head) → Ends (if_tag tag c h)
     past (Bad rule) = untrue
@@ -135,7 +135,7 @@ found_in m k =
     let n4 : b.cur.at ≤ p.at = wp.along.on in
     let n5 : p.at ≤ x.at = wx.along.on in
     let es : s.end ≤ s.at = subst (λ (j : Cursor). j.end ≤ j.at) l.1 o.1 in
-    let n6 : x.at ≡ length m = omega (arith, v.took, v.end, v.to, e.1, need_ends m 0x30 c₀ (subst Ok l.1 o.0)) in
+    let n6 : x.at ≡ length m = omega (arith, v.took, v.end, v.to, e.1, need_ends m 0x30 c₀ (subst NoFault l.1 o.0)) in
     let hh : start_of (whole_span c h.cur) + (whole_span c h.cur).len ≡ h.cur.at = omega arith in
     let bb : start_of (whole_span h.cur b.cur) + (whole_span h.cur b.cur).len ≡ b.cur.at = omega arith in
     let pl : (outer_span b.cur p).len ≡ p.at - b.cur.at = outer_len b.cur p wx.along.ok (field-bare m 0xA0 0x03 b.cur) in

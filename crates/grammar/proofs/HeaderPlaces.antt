@@ -14,7 +14,7 @@ use Rattle.grammar.specs.Cursor.{tag_at, need_of, done_of, enter_of, leave_of, s
 use Rattle.grammar.specs.Parts.{field_of, typed_field, sequence_field}
 use Rattle.grammar.specs.Header.{name_tag, name_of, names_of, options_of, ids_of, header_of}
 use Rattle.grammar.proofs.CursorLaws.{untrue}
-use Rattle.grammar.proofs.Places.{Ok, wide, On, Went, Took, Takes, ◌then◌, need_takes, small-takes, ended, left, at_leave, Nest, nest}
+use Rattle.grammar.proofs.Places.{NoFault, wide, On, Went, Took, Takes, ◌then◌, need_takes, small-takes, ended, left, at_leave, Nest, nest}
 use Rattle.grammar.proofs.PartPlaces.{Between, whole_span_lem, found_span_lem, field_steps, typed_field_steps, sequence_field_steps}
 
 pub name_takes : (m : List ℕ) (c : Cursor) → Takes c (name_of m c)
@@ -28,7 +28,7 @@ pub record NamesIn (c : Cursor) (n : Names) : Type 0 where
   pub sender : Between c.at n.cur.at n.sender
   pub recipient : Between c.at n.cur.at n.recipient
 
-pub names_in : (m : List ℕ) (c : Cursor) → Ok (names_of m c).cur → NamesIn c (names_of m c)
+pub names_in : (m : List ℕ) (c : Cursor) → NoFault (names_of m c).cur → NamesIn c (names_of m c)
 unfolding names_of
 names_in m c k =
     let v : Cursor = small_integer_of m c in
@@ -50,7 +50,7 @@ pub record OptionsIn (c : Cursor) (o : Options) : Type 0 where
   pub sender : Between c.at o.cur.at o.sender_kid
   pub recip : Between c.at o.cur.at o.recip_kid
 
-pub options_in : (m : List ℕ) (c : Cursor) → Ok (options_of m c).cur → OptionsIn c (options_of m c)
+pub options_in : (m : List ℕ) (c : Cursor) → NoFault (options_of m c).cur → OptionsIn c (options_of m c)
 unfolding options_of
 options_in m c k =
     let time : Cursor = field_of m 0xA0 0x18 c in
@@ -81,7 +81,7 @@ pub record IdsIn (c : Cursor) (i : Ids) : Type 0 where
   pub text : Between c.at i.cur.at i.free_text
   pub info : Between c.at i.cur.at i.general_info
 
-pub ids_in : (m : List ℕ) (c : Cursor) → Ok (ids_of m c).cur → IdsIn c (ids_of m c)
+pub ids_in : (m : List ℕ) (c : Cursor) → NoFault (ids_of m c).cur → IdsIn c (ids_of m c)
 unfolding ids_of
 ids_in m c k =
     let id : Cursor = field_of m 0xA4 0x04 c in
@@ -129,7 +129,7 @@ unfolding header_of
 header-takes m c = at_leave (Took c) _ (need_takes m 0x30 c)
 
 -- every span of a header lies in the bytes of its element
-pub header_in : (m : List ℕ) (c : Cursor) → Ok (header_of m c).cur → HeaderIn c.at (header_of m c).cur.at (header_of m c).header
+pub header_in : (m : List ℕ) (c : Cursor) → NoFault (header_of m c).cur → HeaderIn c.at (header_of m c).cur.at (header_of m c).header
 unfolding header_of
 header_in m c k =
     let s : Cursor = need_of m 0x30 c in

@@ -15,8 +15,8 @@ use Rattle.grammar.specs.Cursor.{is_ok, head_in, tag_at, past_of, if_tag, need_o
 use Rattle.grammar.specs.Parts.{found_of}
 use Rattle.grammar.proofs.CursorLaws.{head_in_parent, untrue}
 
-abbrev pub Ok : Cursor → Type 0
-Ok c = is_ok c ≡ true
+abbrev pub NoFault : Cursor → Type 0
+NoFault c = is_ok c ≡ true
 
 -- from one offset up to another: absent, or between a and b
 pub data Spot (a b from to : ℕ) : Type 0 where
@@ -31,7 +31,7 @@ wide h k (present p q r) = present (omega arith) q (omega arith)
 
 -- on under the same end, and not past it
 pub record On (c r : Cursor) : Type 0 where
-  pub ok : Ok c
+  pub ok : NoFault c
   pub end : r.end ≡ c.end
   pub on : c.at ≤ r.at
   pub fits : r.at ≤ max c.at c.end
@@ -50,15 +50,15 @@ pub record Took (c r : Cursor) : Type 0 where
   pub inside : r.at ≤ c.end
 
 abbrev pub Goes : Cursor → Cursor → Type 0
-Goes c r = Ok r → On c r
+Goes c r = NoFault r → On c r
 
 abbrev pub Steps : Cursor → Cursor → Type 0
-Steps c r = Ok r → Went c r
+Steps c r = NoFault r → Went c r
 
 abbrev pub Takes : Cursor → Cursor → Type 0
-Takes c r = Ok r → Took c r
+Takes c r = NoFault r → Took c r
 
-pub still : {c : Cursor} → Ok c → On c c
+pub still : {c : Cursor} → NoFault c → On c c
 still k = record { ok = k; end = refl; on = omega arith; fits = omega arith }
 
 pub ◌then◌ : {a b c : Cursor} → On a b → On b c → On a c
@@ -73,12 +73,12 @@ steps f k = took_went (f k)
 
 -- ## The verbs that read
 
-past_took : (m : List ℕ) (c : Cursor) {t start len : ℕ} → Whole t start len ≡ head_in m c.at c.end → Ok c → Took c (past_of c start len)
+past_took : (m : List ℕ) (c : Cursor) {t start len : ℕ} → Whole t start len ≡ head_in m c.at c.end → NoFault c → Took c (past_of c start len)
 past_took m c e k =
     let w = head_in_parent m c.at c.end (sym e) in
     record { along = record { ok = k; end = refl; on = omega arith; fits = omega arith }; low = omega arith; held = omega arith; high = omega arith; inside = omega arith }
 
-tag-takes : (m : List ℕ) (tag : ℕ) (c : Cursor) (h : Head) → h ≡ head_in m c.at c.end → Ok c → Takes c (if_tag tag c h)
+tag-takes : (m : List ℕ) (tag : ℕ) (c : Cursor) (h : Head) → h ≡ head_in m c.at c.end → NoFault c → Takes c (if_tag tag c h)
 tag-takes m tag c (Bad rule) e k = untrue
 tag-takes m tag c (Whole t start len) e k = cond_both (Takes c) (eqb t tag) (λ q o. past_took m c e k) (λ q. untrue)
 
@@ -107,30 +107,30 @@ small-takes m c = cond-case (Takes c) (ltb 4 ((need_of m 0x02 c).to - (need_of m
 
 -- ## In, at the end, and out again
 
-pub ended : (c : Cursor) → Ok (done_of c) → Ok c × (c.end ≤ c.at) × (done_of c ≡ c)
+pub ended : (c : Cursor) → NoFault (done_of c) → NoFault c × (c.end ≤ c.at) × (done_of c ≡ c)
 unfolding done_of
 ended c =
-    cond_both (λ (r : Cursor). Ok r → Ok c × (c.end ≤ c.at) × (r ≡ c)) (ltb c.at c.end)
+    cond_both (λ (r : Cursor). NoFault r → NoFault c × (c.end ≤ c.at) × (r ≡ c)) (ltb c.at c.end)
     (λ q. untrue) (λ q k. (k, ltb-false c.at c.end q, refl))
 
-pub left : (o i : Cursor) → Ok (leave_of o i) → Ok i × (leave_of o i ≡ o)
+pub left : (o i : Cursor) → NoFault (leave_of o i) → NoFault i × (leave_of o i ≡ o)
 unfolding leave_of
-left o i = cond_both (λ (r : Cursor). Ok r → Ok i × (r ≡ o)) (is_ok i) (λ q k. (q, refl)) (λ q k. untrue (sym q ∙ k))
+left o i = cond_both (λ (r : Cursor). NoFault r → NoFault i × (r ≡ o)) (is_ok i) (λ q k. (q, refl)) (λ q k. untrue (sym q ∙ k))
 
 -- what holds of a cursor that is right holds of it at the end, and outside
-pub at_done : (P : Cursor → Type 0) {c : Cursor} → (Ok c → P c) → Ok (done_of c) → P (done_of c)
+pub at_done : (P : Cursor → Type 0) {c : Cursor} → (NoFault c → P c) → NoFault (done_of c) → P (done_of c)
 at_done P {c} f k = subst P (sym (ended c k).2) (f (ended c k).0)
 
-pub at_leave : (P : Cursor → Type 0) {o : Cursor} (i : Cursor) → (Ok o → P o) → Ok (leave_of o i) → P (leave_of o i)
-at_leave P {o} i f k = subst P (sym (left o i k).1) (f (subst Ok (left o i k).1 k))
+pub at_leave : (P : Cursor → Type 0) {o : Cursor} (i : Cursor) → (NoFault o → P o) → NoFault (leave_of o i) → P (leave_of o i)
+at_leave P {o} i f k = subst P (sym (left o i k).1) (f (subst NoFault (left o i k).1 k))
 
 -- in the element that s has read
 abbrev pub in_of : Cursor → Cursor
 in_of s = record { at = s.from; end = s.to; from = 0; to = 0; rule = 0 }
 
-pub entered : (s : Cursor) → Ok (enter_of s) → Ok s × (enter_of s ≡ in_of s)
+pub entered : (s : Cursor) → NoFault (enter_of s) → NoFault s × (enter_of s ≡ in_of s)
 unfolding enter_of
-entered s = cond_both (λ (r : Cursor). Ok r → Ok s × (r ≡ in_of s)) (is_ok s) (λ q k. (q, refl)) (λ q k. untrue (sym q ∙ k))
+entered s = cond_both (λ (r : Cursor). NoFault r → NoFault s × (r ≡ in_of s)) (is_ok s) (λ q k. (q, refl)) (λ q k. untrue (sym q ∙ k))
 
 -- x lies in the element that s took
 pub record Nest (c s x : Cursor) : Type 0 where
@@ -148,7 +148,7 @@ nest {c} {s} {x} f g =
     record { took = t; start = ap (λ (k : Cursor). k.at) e.1; from = omega arith; to = omega arith; end = i.end }
 
 -- back out with the span of what was found inside
-pub found_steps : {c o s i : Cursor} → Takes c o → (Ok o → o ≡ s) → Steps (enter_of s) i → Steps c (found_of o i)
+pub found_steps : {c o s i : Cursor} → Takes c o → (NoFault o → o ≡ s) → Steps (enter_of s) i → Steps c (found_of o i)
 unfolding found_of
 found_steps {c} {o} {s} {i} f e g =
     cond_both (Steps c) (is_ok i)
@@ -168,7 +168,7 @@ pub record Located (n : ℕ) (c : Cursor) : Type 0 where
 
 -- while all is right the cursor lies inside n bytes, and its span is absent or behind it
 abbrev pub Placed : ℕ → Cursor → Type 0
-Placed n c = Ok c → Located n c
+Placed n c = NoFault c → Located n c
 
 -- every rule that steps keeps a cursor inside
 pub kept : {n : ℕ} {c r : Cursor} → Steps c r → Placed n c → Placed n r

@@ -1,8 +1,7 @@
 -- What the code of both ends hands on of a message: the row that refuses it as a number, and the reader's fault.
-use Rattle.std.specs.Prelude.{ℕ, List, [], ◌∷◌, Bool, cond, eqb}
+use Rattle.std.specs.Prelude.{ℕ, List, [], ◌∷◌, Bool, cond, eqb, Ok, Err}
 use Rattle.message.specs.declared.ReadFault.{ReadFault}
-use Rattle.message.specs.declared.Reading.{Reading}
-use Rattle.message.specs.declared.Reading.TheVariants.{Clean, Refused}
+use Rattle.message.specs.Types.{Reading}
 use Rattle.protocol.specs.Refusals.{Row, LowestRow, pass, stop, no_fault}
 
 -- the number of the lowest row that applies; 0, which is no number of the table, where none does
@@ -12,8 +11,8 @@ number_of (stop k) = k
 
 -- the reader's fault
 abbrev pub fault_of : Reading → ReadFault
-fault_of (Clean m) = no_fault
-fault_of (Refused f) = f
+fault_of (Ok m) = no_fault
+fault_of (Err f) = f
 
 -- the next row: the number so far, or this one where it applies
 abbrev pub or_row : ℕ → ℕ → Bool → ℕ

@@ -15,8 +15,8 @@ pub fn fault_of(reading: Reading) -> ReadFault
     ensures { result ≡ fault_of reading }
 {
     match reading {
-        Reading::Refused(fault) => fault,
-        Reading::Clean(_) => ReadFault {
+        Err(fault) => fault,
+        Ok(_) => ReadFault {
             number: 0,
             at: Offset(0),
             rule: 0,
@@ -90,12 +90,12 @@ pub fn status_or_0(entry: Entry) -> u32
 
 // "11 if Confirmed, else 2"
 fn bit_of_20(confirmed: bool) -> FailureInfo
-    ensures { result ≡ cond confirmed (FailureInfo.Bit 11) (FailureInfo.Bit 2) }
+    ensures { result ≡ cond confirmed (Some 11) (Some 2) }
 {
     if confirmed {
-        FailureInfo::Bit(11)
+        Some(11)
     } else {
-        FailureInfo::Bit(2)
+        Some(2)
     }
 }
 
@@ -104,30 +104,30 @@ pub fn bit_of(number: u8, confirmed: bool) -> FailureInfo
     ensures { result ≡ bit_of number confirmed }
 {
     match number {
-        1 => FailureInfo::Bit(5),
-        2 => FailureInfo::Bit(5),
-        3 => FailureInfo::Bit(22),
-        4 => FailureInfo::Bit(5),
-        5 => FailureInfo::Bit(18),
-        6 => FailureInfo::Bit(1),
-        7 => FailureInfo::Bit(1),
-        8 => FailureInfo::Bit(2),
-        9 => FailureInfo::Bit(2),
-        10 => FailureInfo::Bit(21),
-        11 => FailureInfo::Bit(24),
-        12 => FailureInfo::Bit(2),
-        13 => FailureInfo::Bit(23),
-        14 => FailureInfo::Bit(13),
-        15 => FailureInfo::Bit(2),
-        16 => FailureInfo::Bit(2),
-        17 => FailureInfo::Bit(2),
-        18 => FailureInfo::Bit(2),
-        19 => FailureInfo::Bit(4),
+        1 => Some(5),
+        2 => Some(5),
+        3 => Some(22),
+        4 => Some(5),
+        5 => Some(18),
+        6 => Some(1),
+        7 => Some(1),
+        8 => Some(2),
+        9 => Some(2),
+        10 => Some(21),
+        11 => Some(24),
+        12 => Some(2),
+        13 => Some(23),
+        14 => Some(13),
+        15 => Some(2),
+        16 => Some(2),
+        17 => Some(2),
+        18 => Some(2),
+        19 => Some(4),
         20 => bit_of_20(confirmed),
-        21 => FailureInfo::NoBit,
-        30 => FailureInfo::NoBit,
-        31 => FailureInfo::NoBit,
-        32 => FailureInfo::NoBit,
-        _ => FailureInfo::NoBit,
+        21 => None,
+        30 => None,
+        31 => None,
+        32 => None,
+        _ => None,
     }
 }

@@ -61,8 +61,8 @@ fn put_message(rt: &HostRuntime, m: Message) -> io::Result<()> {
 
 fn put_reading(rt: &HostRuntime, reading: Reading) -> io::Result<()> {
     match reading {
-        Reading::Clean(m) => put_message(rt, m),
-        Reading::Refused(fault) => println!(rt; "refused {}", fault.number),
+        Ok(m) => put_message(rt, m),
+        Err(fault) => println!(rt; "refused {}", fault.number),
     }
 }
 

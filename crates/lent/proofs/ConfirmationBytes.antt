@@ -1,4 +1,5 @@
 -- Demand 2 over lent bytes.
+use Rattle.std.specs.Prelude.{Ok}
 use Prim.Native.Nat.{ℕ}
 use mathlib.Core.List.{List}
 use mathlib.Core.Bool.{Bool, true, false}
@@ -7,7 +8,6 @@ use mathlib.Core.Logic.{◌⊎◌, inl, inr}
 use native.Mathlib.Omega.{arith}
 use Rattle.message.specs.Read.{reading_of}
 use Rattle.grammar.specs.declared.Message.{Message}
-use Rattle.message.specs.declared.Reading.TheVariants as read
 use Rattle.protocol.specs.declared.RegistrarInput.{RegistrarInput}
 use Rattle.protocol.specs.declared.TransactionState.{TransactionState}
 use Rattle.protocol.specs.declared.TransactionState.TheVariants.{Confirmed, Declined}
@@ -53,7 +53,7 @@ leads m false h s = (Confirmed, inl (refl, inl h))
 
 -- ## The rule
 
-module _ (t : TransactionTable) (d : RegistrarInput) (bytes : List ℕ) (m : Message) (reads : reading_of bytes ≡ read.Clean m) (kind : m.body.kind ≡ 24) where
+module _ (t : TransactionTable) (d : RegistrarInput) (bytes : List ℕ) (m : Message) (reads : reading_of bytes ≡ Ok m) (kind : m.body.kind ≡ 24) where
   module _ (s : List ℕ) (x : Crossing) (back : registrar_read_back x ≡ registrar_message t d bytes) (code : x.code ≡ outcome_number (registrar_message t d bytes).outcome) (stays : (x.code ≡ 0 → ⊥) → x.state ≡ s) where
     abbrev rule : ConfirmationRule t d bytes m
     rule = confirmation_rule t d bytes m

@@ -1,4 +1,5 @@
 -- Every call of an end entity keeps the enrolment's sizes, and what it answers reads back.
+use Rattle.std.specs.Prelude.{Ok, Err}
 use Prim.Native.Nat.{ℕ}
 use mathlib.Core.List.{List}
 use mathlib.Core.Bool.{false, ◌||◌}
@@ -6,8 +7,7 @@ use mathlib.Core.Path.{◌≡◌, refl, sym, subst}
 use lib.ListN.{length}
 use lib.Dec.{eqb}
 use Rattle.message.specs.Read.{reading_of}
-use Rattle.message.specs.declared.Reading.{Reading}
-use Rattle.message.specs.declared.Reading.TheVariants as read
+use Rattle.message.specs.Types.{Reading}
 use Rattle.protocol.specs.declared.TransactionId.{TransactionId}
 use Rattle.protocol.specs.declared.FreshNonce.{FreshNonce}
 use Rattle.protocol.specs.declared.EndEntityInput.{EndEntityInput}
@@ -74,8 +74,8 @@ module _ (x : Enrolment) (z : EnrolmentSized x) where
 
     read_sized : (bytes : List ℕ) (r : Reading) → EndEntitySized (end_entity_read r x d bytes)
     unfolding end_entity_read
-    read_sized bytes (read.Refused f) = record { enrolment = z; outgoing = silent_sized; outcome = bit-back _ false }
-    read_sized bytes (read.Clean m) = checked_sized (fields_of bytes m) _ refl
+    read_sized bytes (Err f) = record { enrolment = z; outgoing = silent_sized; outcome = bit-back _ false }
+    read_sized bytes (Ok m) = checked_sized (fields_of bytes m) _ refl
 
     pub message_sized : (bytes : List ℕ) → EndEntitySized (end_entity_message x d bytes)
     unfolding end_entity_message

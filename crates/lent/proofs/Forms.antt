@@ -10,7 +10,7 @@ use lib.ListN.{length, get_elem?}
 use lib.Dec.{eqb}
 use Rattle.protocol.specs.declared.TransactionTable.{TransactionTable}
 use Rattle.protocol.specs.declared.Enrolment.{Enrolment}
-use Rattle.protocol.specs.declared.Verdict.{Verdict}
+use Rattle.protocol.specs.Types.{Verdict}
 use Rattle.message.specs.Read.{reading_of}
 use Rattle.protocol.specs.Agreement.{ByVerdict, ByGood, SenderIssued}
 use Rattle.protocol.specs.Promises.{RegistrarPromise, EndEntityPromise}

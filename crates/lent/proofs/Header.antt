@@ -17,7 +17,7 @@ use Rattle.protocol.specs.declared.TransactionState.TheVariants as at_registrar
 use Rattle.protocol.specs.declared.EnrolmentState.TheVariants as at_board
 use Rattle.protocol.specs.Table.{capacity}
 use Rattle.protocol.specs.Run.{TheRegistrar, OneBoard, Event, BoardEnrolment}
-use Rattle.protocol.specs.Agreement.{Some, Issued, RegistrarHolds, SaysConfirmed, ClosedSince, Confirmation, FoundUntilClosed, MayBeSure, Neither, AgreesOrBetween, BoardOf, Agreement}
+use Rattle.protocol.specs.Agreement.{SomeEvent, Issued, RegistrarHolds, SaysConfirmed, ClosedSince, Confirmation, FoundUntilClosed, MayBeSure, Neither, AgreesOrBetween, BoardOf, Agreement}
 use Rattle.protocol.proofs.Tests.{cases}
 use Rattle.packed.specs.Outgoing.{outgoing_of}
 use Rattle.packed.specs.Table as table
@@ -69,7 +69,7 @@ may_be s o (inl e) = inl (said s o at_board.Sure e)
 may_be s o (inr (inl e)) = inr (inl (said s o at_board.Confirming e))
 may_be s o (inr (inr e)) = inr (inr (said s o at_board.Unsettled e))
 
-never_back : (i : TransactionId) (es : List LentEvent) → TablesOk es → (Some (λ e. SaysConfirmed e.table i) (events_of es) → ⊥) → NeverConfirmed i.bytes es
+never_back : (i : TransactionId) (es : List LentEvent) → TablesOk es → (SomeEvent (λ e. SaysConfirmed e.table i) (events_of es) → ⊥) → NeverConfirmed i.bytes es
 never_back i [] o d = tt
 never_back i (e ∷ es) o d = (
   (λ m p h a c.

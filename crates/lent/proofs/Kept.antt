@@ -10,7 +10,7 @@ use lib.Dec.{eqb, leb}
 use Rattle.protocol.specs.declared.TransactionTable.{TransactionTable}
 use Rattle.protocol.specs.declared.Enrolment.{Enrolment}
 use Rattle.protocol.specs.declared.Board.{Board}
-use Rattle.protocol.specs.declared.FailureInfo.{FailureInfo}
+use Rattle.protocol.specs.Types.{FailureInfo}
 use Rattle.protocol.specs.declared.Outcome.{Outcome}
 use Rattle.protocol.specs.declared.Outcome.TheVariants.{Done, Again, Refused}
 use Rattle.protocol.specs.declared.RegistrarAnswer.{RegistrarAnswer}

@@ -14,7 +14,7 @@ use Rattle.protocol.specs.declared.Nonce.{Nonce}
 use Rattle.protocol.specs.declared.Outcome.{Outcome}
 use Rattle.protocol.specs.declared.Outgoing.{Outgoing}
 use Rattle.protocol.specs.Run.{unless_refused}
-use Rattle.protocol.specs.Agreement.{Some, Issued, SenderIssued, FairEvent, Fair}
+use Rattle.protocol.specs.Agreement.{SomeEvent, Issued, SenderIssued, FairEvent, Fair}
 use Rattle.protocol.proofs.Tests.{none_some, some_some, cases}
 use Rattle.packed.specs.Arrays.{unpack16}
 use Rattle.packed.specs.Outgoing.{outgoing_of}
@@ -65,7 +65,7 @@ closed_at (AtRegistrar d a) x k c z i e = closed-id (closing d) x k c z i e
 closed_at (AtEndEntity q d a) x k c z i e = none_some e
 closed_at (EndEntityStart b s q j n a) x k c z i e = none_some e
 
-drawn_some : (i : TransactionId) (es : List LentEvent) → AllPlain es → Some (λ f. f.drawn ≡ some i) (events_of es)
+drawn_some : (i : TransactionId) (es : List LentEvent) → AllPlain es → SomeEvent (λ f. f.drawn ≡ some i) (events_of es)
     → SomeMade (λ f. Taken f × IsStart i.bytes f.call) es
 unfolding events_of
 drawn_some i [] a h = absurd h
@@ -117,7 +117,7 @@ drawn-back (AtEndEntity q d a) x k c z i e = absurd e.1
 drawn-back (EndEntityStart b s q j n a) x k c z i e = taken_some x (id_of j) k c e.0 ∙ ap some (id-is (id_of j) (record { bytes = i }) (id-bytes j z ∙ e.1))
 
 drawn-made : (i : List ℕ) (es : List LentEvent) → AllPlain es → SomeMade (λ f. Taken f × IsStart i f.call) es
-    → Some (λ f. f.drawn ≡ some (record { bytes = i })) (events_of es)
+    → SomeEvent (λ f. f.drawn ≡ some (record { bytes = i })) (events_of es)
 drawn-made i [] a h = absurd h
 drawn-made i (e ∷ es) a (inl x) = let q : PlainEvent e = a.0 x.0 in some_first (λ f. f.drawn ≡ some (record { bytes = i })) e es x.0 (drawn-back e.call e.answer e.code q.code q.id i x.1)
 drawn-made i (e ∷ es) a (inr x) = some_later (λ f. f.drawn ≡ some (record { bytes = i })) e es (drawn-made i es a.1 x)

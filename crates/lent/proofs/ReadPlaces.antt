@@ -1,4 +1,5 @@
 -- The numbers of a reading are put at places that differ: what stands at each is what was put there.
+use Rattle.std.specs.Prelude.{Ok, Err}
 use Prim.Native.Nat.{ℕ, zero, suc, ◌+◌, ◌<◌, ◌≤◌}
 use mathlib.Core.List.{List, [], ◌∷◌}
 use mathlib.Core.Bool.{Bool, true, false, cond}
@@ -11,8 +12,7 @@ use lib.Dec.{eqb, ltb}
 use Rattle.grammar.specs.declared.Span.{Span}
 use Rattle.grammar.specs.declared.Message.{Message}
 use Rattle.message.specs.Read.{reading_of, protected_length}
-use Rattle.message.specs.declared.Reading.{Reading}
-use Rattle.message.specs.declared.Reading.TheVariants.{Clean, Refused}
+use Rattle.message.specs.Types.{Reading}
 use Rattle.message.proofs.ReadingLaws.{refused-only}
 use Rattle.protocol.proofs.Tests.{cases}
 use Rattle.fields.specs.Fields.{field_count, put_number, put_span, put_names, put_ids, put_entry, put_body, put_protected, put_message, read_number, read_numbers, read_answer, read_fields}
@@ -183,8 +183,8 @@ module _ (x : Message) (l : List ℕ) (room : field_count ≤ length l) where
 -- ## A reading that returns 0 is clean
 
 clean : (m l : List ℕ) (r : Reading) → reading_of m ≡ r → field_count ≤ length l → read_number r ≡ 0 → WrittenInPlace m (read_numbers r l)
-clean m l (Clean x) e room z = in_place x l room m (as_the_standard_says m x e)
-clean m l (Refused f) e room z = absurd (go (refused-only m f e))
+clean m l (Ok x) e room z = in_place x l room m (as_the_standard_says m x e)
+clean m l (Err f) e room z = absurd (go (refused-only m f e))
   where
     go : (f.number ≡ 1) ⊎ (f.number ≡ 2) → ⊥
     go (inl q) = omega arith

@@ -1,4 +1,5 @@
 -- Every call of the registrar keeps the table's sizes, and what it answers reads back.
+use Rattle.std.specs.Prelude.{Ok, Err}
 use Prim.Native.Nat.{ℕ, ◌<◌}
 use mathlib.Core.List.{List}
 use mathlib.Core.Bool.{Bool, false}
@@ -8,8 +9,7 @@ use native.Mathlib.Omega.{arith}
 use lib.ListN.{length}
 use lib.Dec.{leb}
 use Rattle.message.specs.Read.{reading_of}
-use Rattle.message.specs.declared.Reading.{Reading}
-use Rattle.message.specs.declared.Reading.TheVariants as read
+use Rattle.message.specs.Types.{Reading}
 use Rattle.protocol.specs.declared.TransactionId.{TransactionId}
 use Rattle.protocol.specs.declared.FreshNonce.{FreshNonce}
 use Rattle.protocol.specs.declared.Hash.{Hash}
@@ -123,8 +123,8 @@ module _ (t : TransactionTable) (z : TableSized t) where
 
     read_sized : (bytes : List ℕ) (r : Reading) → RegistrarSized (registrar_read r t d bytes)
     unfolding registrar_read registrar_fields
-    read_sized bytes (read.Refused f) = record { table = z; outgoing = silent_sized; outcome = bit-back _ false; slot = omega arith }
-    read_sized bytes (read.Clean m) = checked_sized (fields_of bytes m) _ refl _ refl
+    read_sized bytes (Err f) = record { table = z; outgoing = silent_sized; outcome = bit-back _ false; slot = omega arith }
+    read_sized bytes (Ok m) = checked_sized (fields_of bytes m) _ refl _ refl
 
     pub message_sized : (bytes : List ℕ) → RegistrarSized (registrar_message t d bytes)
     unfolding registrar_message

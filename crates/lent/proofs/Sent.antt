@@ -1,4 +1,5 @@
 -- What was given to be sent, at its places in the bytes and as it is read out of them.
+use Rattle.std.specs.Prelude.{Ok, Err}
 use Prim.Native.Nat.{ℕ, ◌-◌}
 use mathlib.Core.List.{List, [], ◌∷◌}
 use mathlib.Core.Bool.{Bool, true, false}
@@ -9,11 +10,10 @@ use borrow.Author.Tests.{eqb-true, eq-eqb}
 use lib.ListN.{drop, get_or}
 use lib.Dec.{eqb}
 use Rattle.grammar.specs.declared.Message.{Message}
-use Rattle.message.specs.declared.Reading.{Reading}
-use Rattle.message.specs.declared.Reading.TheVariants as read
+use Rattle.message.specs.Types.{Reading}
 use Rattle.protocol.specs.declared.Outgoing.{Outgoing}
 use Rattle.protocol.specs.Run.{End, Event, sent_by}
-use Rattle.protocol.specs.Agreement.{Some, Gave, Issued, Carries, IssuedReading}
+use Rattle.protocol.specs.Agreement.{SomeEvent, Gave, Issued, Carries, IssuedReading}
 use Rattle.protocol.proofs.Tests.{none_some, some_some, cases}
 use Rattle.packed.specs.Places.{flag_bytes}
 use Rattle.packed.specs.Outgoing.{outgoing_of}
@@ -43,12 +43,12 @@ bytes_gave e s = sent_is e.call e.answer ∙ ap (λ (b : Bool). sent_by b (outgo
 
 -- an event of the calls that were made
 pub made_some : (P : Event → Type 0) (Q : LentEvent → Type 0) (e : LentEvent) (es : List LentEvent)
-    → (is_made e.code ≡ true → P (event_of e) → Q e) → (Some P (events_of es) → SomeMade Q es)
-    → Some P (events_of (e ∷ es)) → SomeMade Q (e ∷ es)
+    → (is_made e.code ≡ true → P (event_of e) → Q e) → (SomeEvent P (events_of es) → SomeMade Q es)
+    → SomeEvent P (events_of (e ∷ es)) → SomeMade Q (e ∷ es)
 unfolding events_of
-made_some P Q e es f g = cases (λ (l : List Event). Some P l → SomeMade Q (e ∷ es)) (is_made e.code) _ _ split (λ _ x. inr (g x))
+made_some P Q e es f g = cases (λ (l : List Event). SomeEvent P l → SomeMade Q (e ∷ es)) (is_made e.code) _ _ split (λ _ x. inr (g x))
   where
-    split : is_made e.code ≡ true → Some P (event_of e ∷ events_of es) → SomeMade Q (e ∷ es)
+    split : is_made e.code ≡ true → SomeEvent P (event_of e ∷ events_of es) → SomeMade Q (e ∷ es)
     split m (inl x) = inl (m, f m x)
     split m (inr x) = inr (g x)
 
@@ -68,11 +68,11 @@ sent-one p P Q f [] h = absurd h
 sent-one p P Q f (e ∷ es) (inl x) = (outgoing_in e, x.1.2, inl (x.0, (x.1.0, x.1.1, (refl, f (outgoing_in e) x.1.2))))
 sent-one p P Q f (e ∷ es) (inr x) = let q : (o : List ℕ) × P o × Sent p (λ u. (u ≡ o) × Q u) es = sent-one p P Q f es x in (q.0, q.1, inr q.2)
 
-pub some_later : (P : Event → Type 0) (e : LentEvent) (es : List LentEvent) → Some P (events_of es) → Some P (events_of (e ∷ es))
+pub some_later : (P : Event → Type 0) (e : LentEvent) (es : List LentEvent) → SomeEvent P (events_of es) → SomeEvent P (events_of (e ∷ es))
 unfolding events_of
-some_later P e es x = cases (Some P) (is_made e.code) _ _ (λ _. inr x) (λ _. x)
+some_later P e es x = cases (SomeEvent P) (is_made e.code) _ _ (λ _. inr x) (λ _. x)
 
-pub some_first : (P : Event → Type 0) (e : LentEvent) (es : List LentEvent) → is_made e.code ≡ true → P (event_of e) → Some P (events_of (e ∷ es))
+pub some_first : (P : Event → Type 0) (e : LentEvent) (es : List LentEvent) → is_made e.code ≡ true → P (event_of e) → SomeEvent P (events_of (e ∷ es))
 unfolding events_of
 some_first P e es m x = rw m (inl x)
 
@@ -98,8 +98,8 @@ carries bytes m o c =
     }
 
 pub issued-bytes : (p : End) (bytes : List ℕ) (r : Reading) (es : List LentEvent) → IssuedBytes p bytes r es → IssuedReading p bytes r (events_of es)
-issued-bytes p bytes (read.Refused f) es h = tt
-issued-bytes p bytes (read.Clean m) es h =
+issued-bytes p bytes (Err f) es h = tt
+issued-bytes p bytes (Ok m) es h =
     let q : (u : List ℕ) × CarriesBytes bytes m u × Issued p (outgoing_of u) (events_of es) = sent-issued p (CarriesBytes bytes m) es h in
     (outgoing_of q.0, q.2, carries bytes m q.0 q.1)
 
@@ -116,6 +116,6 @@ carries-back bytes m o c =
     }
 
 pub issued-back : (p : End) (bytes : List ℕ) (r : Reading) (es : List LentEvent) → IssuedReading p bytes r (events_of es) → IssuedBytes p bytes r es
-issued-back p bytes (read.Refused f) es h = tt
-issued-back p bytes (read.Clean m) es h =
+issued-back p bytes (Err f) es h = tt
+issued-back p bytes (Ok m) es h =
     sent_map p (λ u. outgoing_of u ≡ h.0) (CarriesBytes bytes m) (λ u y. carries-back bytes m u (subst (Carries bytes m) (sym y) h.2)) es (issued-sent p h.0 es h.1)

@@ -1,4 +1,5 @@
 -- What the steps put into a table, an enrolment or an answer has its size: parts of a message that passed rows 4 and 5, bits, and rows.
+use Rattle.std.specs.Prelude.{Some, None}
 use Prim.Native.Nat.{ℕ, zero, suc, ◌<◌, ◌≤◌}
 use mathlib.Core.List.{List, [], ◌∷◌}
 use mathlib.Core.Bool.{Bool, true, false, ◌&&◌}
@@ -9,8 +10,7 @@ use borrow.Author.Tests.{ltb-true, eqb-true, ne_eqb, not-false}
 use lib.ListN.{length, replicate, length-replicate}
 use lib.Dec.{eqb, leb, ltb}
 use Rattle.der.proofs.Auto.{and_left, and_right}
-use Rattle.protocol.specs.declared.FailureInfo.{FailureInfo}
-use Rattle.protocol.specs.declared.FailureInfo.TheVariants.{NoBit, Bit}
+use Rattle.protocol.specs.Types.{FailureInfo}
 use Rattle.protocol.specs.declared.TransactionId.{TransactionId}
 use Rattle.protocol.specs.declared.Transaction.{Transaction}
 use Rattle.protocol.specs.declared.TransactionTable.{TransactionTable}
@@ -38,16 +38,16 @@ thirty_two_in s = cases (λ (u : Unpacked32). length u.bytes ≡ 32) (eqb (lengt
 -- ## The bits: none is 255
 
 abbrev small : FailureInfo → Bool
-small NoBit = true
-small (Bit b) = ltb b 255
+small None = true
+small (Some b) = ltb b 255
 
 abbrev all_small : List NumberBit → Bool
 all_small [] = true
 all_small (b ∷ bs) = small b.bit && all_small bs
 
 small-back : (f : FailureInfo) → small f ≡ true → failure_of (failure_number f) ≡ f
-small-back NoBit e = refl
-small-back (Bit b) e = let h : b < 255 = ltb-true _ _ e in rw (ne_eqb b 255 (λ q. omega arith))
+small-back None e = refl
+small-back (Some b) e = let h : b < 255 = ltb-true _ _ e in rw (ne_eqb b 255 (λ q. omega arith))
 
 in_back : (n : ℕ) (bs : List NumberBit) → all_small bs ≡ true → failure_of (failure_number (bit_in n bs)) ≡ bit_in n bs
 in_back n [] e = refl

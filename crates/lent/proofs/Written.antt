@@ -1,4 +1,5 @@
 -- What the exported call writes is a message issued by the end whose answer held the order.
+use Rattle.std.specs.Prelude.{Ok, Err}
 use Prim.Native.Nat.{ℕ, ◌+◌, ◌*◌, ◌-◌, ◌<◌, ◌≤◌, ◌^◌}
 use mathlib.Core.List.{List, [], ◌∷◌, ◌++◌}
 use mathlib.Core.Bool.{Bool, true, false, cond, ◌&&◌, true≢false}
@@ -13,7 +14,7 @@ use lib.Dec.{eqb, lit<, lit≤}
 use Rattle.der.proofs.Auto.{and_left, and_right}
 use Rattle.grammar.specs.declared.Span.{Span}
 use Rattle.message.specs.Read.{max_message, reading_of}
-use Rattle.message.specs.declared.Reading.{Reading}
+use Rattle.message.specs.Types.{Reading}
 use Rattle.protocol.specs.declared.Outgoing.{Outgoing}
 use Rattle.protocol.specs.Bytes.{zeros, bytes_of}
 use Rattle.protocol.specs.Message.{is_present, optional_part}
@@ -36,8 +37,7 @@ use Rattle.encoding.proofs.Written as encoded
 use Rattle.given.specs.declared.GivenSpans.{GivenSpans}
 use Rattle.given.specs.Numbers.{given_count, spans_of}
 use Rattle.given.specs.Spans.{given_of, spans_inside}
-use Rattle.writer.specs.declared.Written.{Written}
-use Rattle.writer.specs.declared.Written.TheVariants.{Bytes as Size, Refused}
+use Rattle.writer.specs.Types.{Written}
 use Rattle.writer.specs.Write.{write_refusal, write_answer, buffer_after}
 use Rattle.writer.specs.WriteRules.{WriteRules}
 use Rattle.writer.proofs.WriteRules.{writes}
@@ -158,14 +158,14 @@ module _ (out given src buf : List ℕ) (v n : ℕ) (low : n < 2 ^ 32) where
       by false e q = absurd (omega (arith, q, low))
 
   -- the answer has a size, and no refusal
-  unrefused : (g : GivenSpans) (o : Outgoing) → written_number (write_answer src g o buf) ≡ n → (write_refusal src g o buf ≡ 0) × (write_answer src g o buf ≡ Size n)
+  unrefused : (g : GivenSpans) (o : Outgoing) → written_number (write_answer src g o buf) ≡ n → (write_refusal src g o buf ≡ 0) × (write_answer src g o buf ≡ Ok n)
   unfolding write_answer
   unrefused g o = by (eqb (write_refusal src g o buf) 0) refl
     where
       by : (b : Bool) → eqb (write_refusal src g o buf) 0 ≡ b
-          → written_number (cond b (Size (length (encode (given_of src g) o))) (Refused (write_refusal src g o buf))) ≡ n
-          → (write_refusal src g o buf ≡ 0) × (cond b (Size (length (encode (given_of src g) o))) (Refused (write_refusal src g o buf)) ≡ Size n)
-      by true e q = (eqb-true (write_refusal src g o buf) 0 e, ap Size q)
+          → written_number (cond b (Ok (length (encode (given_of src g) o))) (Err (write_refusal src g o buf))) ≡ n
+          → (write_refusal src g o buf ≡ 0) × (cond b (Ok (length (encode (given_of src g) o))) (Err (write_refusal src g o buf)) ≡ Ok n)
+      by true e q = (eqb-true (write_refusal src g o buf) 0 e, ap Ok q)
       by false e q = absurd (eqb-false (write_refusal src g o buf) 0 e (omega (arith, q, low)))
 
 -- BYTES WRITTEN
@@ -227,8 +227,8 @@ module _ (src : List ℕ) (g : GivenSpans) (o : Outgoing) (buf : List ℕ) where
       × RefusalRules (spans_inside src g) (given_of src g) o (length buf) k
       × (k ≢ 0 → (written_number a ≡ in_high_bits k) × (after ≡ buf))
       × (k ≡ 0 → (written_number a ≡ length (encode (given_of src g) o)) × (after ≡ encode (given_of src g) o ++ drop (written_number a) buf))
-  answered (Size n) after r = (0, r.refusal, (λ z. absurd (z refl)), λ z. r.written n refl)
-  answered (Refused k) after r = (k, r.refusal, (λ z. (refl, (r.refused k refl).0)), λ z. absurd ((r.refused k refl).1 z))
+  answered (Ok n) after r = (0, r.refusal, (λ z. absurd (z refl)), λ z. r.written n refl)
+  answered (Err k) after r = (k, r.refusal, (λ z. (refl, (r.refused k refl).0)), λ z. absurd ((r.refused k refl).1 z))
 
 -- WRITE ANSWERS
 pub write_answers : AllWriteAnswers

@@ -1,8 +1,7 @@
 -- Demand 2 over lent bytes: what a confirmation does to the table's bytes, and what the bytes then say.
-use Rattle.std.specs.Prelude.{ℕ, List, true, ◌≡◌, ◌≢◌, length}
+use Rattle.std.specs.Prelude.{ℕ, List, true, ◌≡◌, ◌≢◌, length, Ok}
 use Rattle.message.specs.Read.{reading_of}
 use Rattle.grammar.specs.declared.Message.{Message}
-use Rattle.message.specs.declared.Reading.TheVariants as read
 use Rattle.protocol.specs.declared.RegistrarInput.{RegistrarInput}
 use Rattle.protocol.specs.declared.TransactionState.{TransactionState}
 use Rattle.protocol.specs.declared.Transaction.{Transaction}
@@ -36,7 +35,7 @@ ConfirmsBytes w =
     (bytes : List ℕ) (good board : ℕ) (nonce answer : List ℕ)
     → is_made (crossing w (AtRegistrar (RegistrarMessage bytes good board nonce) answer)).code ≡ true
     → (m : Message)
-    → reading_of bytes ≡ read.Clean m
+    → reading_of bytes ≡ Ok m
     → m.body.kind ≡ 24
     → BytesConfirmed (table_in w) (registrar_input good board nonce) bytes m w.table (crossing w (AtRegistrar (RegistrarMessage bytes good board nonce) answer))
 

@@ -1,11 +1,10 @@
 -- Demand 3 as the C header says it: premises and claim at its places in the lent bytes, nothing unpacked, and the calls by what they returned.
-use Rattle.std.specs.Prelude.{ℕ, ◌<◌, List, [], ◌∷◌, true, false, ◌≡◌, ◌⊎◌, ◌≢◌, ◌↔◌, length, ltb}
+use Rattle.std.specs.Prelude.{ℕ, ◌<◌, List, [], ◌∷◌, true, false, ◌≡◌, ◌⊎◌, ◌≢◌, ◌↔◌, length, ltb, Ok, Err}
 use Rattle.std.proofs.Math.Option.{some}
 use Rattle.std.proofs.Math.ListN.{get_elem?}
 use Rattle.grammar.specs.declared.Message.{Message}
 use Rattle.message.specs.Read.{reading_of}
-use Rattle.message.specs.declared.Reading.{Reading}
-use Rattle.message.specs.declared.Reading.TheVariants as read
+use Rattle.message.specs.Types.{Reading}
 use Rattle.protocol.specs.Table.{capacity}
 use Rattle.protocol.specs.Run.{End, TheRegistrar, OneBoard}
 use Rattle.protocol.specs.Agreement.{PartIs, HasPart, Fair}
@@ -61,8 +60,8 @@ pub record CarriesBytes (bytes : List ℕ) (m : Message) (o : List ℕ) : Type 0
 
 -- nothing is asked of bytes that do not read
 abbrev pub IssuedBytes : End → List ℕ → Reading → List LentEvent → Type 0
-IssuedBytes p bytes (read.Refused f) past = Unit {0}
-IssuedBytes p bytes (read.Clean m) past = Sent p (CarriesBytes bytes m) past
+IssuedBytes p bytes (Err f) past = Unit {0}
+IssuedBytes p bytes (Ok m) past = Sent p (CarriesBytes bytes m) past
 
 -- "a good verdict is given only for messages the named sender issued": good is 1
 abbrev pub GoodAtRegistrar : RegistrarCall → List LentEvent → Type 0

@@ -1,11 +1,10 @@
 -- What is read out of the bytes after a call that was made is the answer of the call on values, all of it: what is proved of answers holds of the bytes.
-use Rattle.std.specs.Prelude.{ℕ, List, true, cond, ◌≡◌, length, drop, eqb}
+use Rattle.std.specs.Prelude.{ℕ, List, true, cond, ◌≡◌, length, drop, eqb, Some, None}
 use Rattle.std.proofs.Math.ListN.{get_elem?}
 use Rattle.protocol.specs.declared.TransactionTable.{TransactionTable}
 use Rattle.protocol.specs.declared.Enrolment.{Enrolment}
 use Rattle.protocol.specs.declared.RegistrarAnswer.{RegistrarAnswer}
 use Rattle.protocol.specs.declared.EndEntityAnswer.{EndEntityAnswer}
-use Rattle.protocol.specs.declared.FailureInfo.TheVariants.{NoBit, Bit}
 use Rattle.protocol.specs.EndEntity.{end_entity_start}
 use Rattle.protocol.specs.Promises.{AtMostOne, AllUnsetZero}
 use Rattle.packed.specs.Bytes.{flag_at}
@@ -83,7 +82,7 @@ pub record OutgoingInPlace (o : List ℕ) : Type 0 where
   pub has_status : (outgoing_of o).contents.has_status ≡ eqb (outgoing_has_status o) 1
   pub status : (outgoing_of o).contents.status ≡ outgoing_status o
   pub hash : (outgoing_of o).contents.hash.bytes ≡ outgoing_hash o
-  pub failure : (outgoing_of o).contents.failure ≡ cond (eqb (outgoing_failure o) 255) NoBit (Bit (outgoing_failure o))
+  pub failure : (outgoing_of o).contents.failure ≡ cond (eqb (outgoing_failure o) 255) None (Some (outgoing_failure o))
   pub has_cert_req_id : (outgoing_of o).contents.has_number ≡ eqb (outgoing_has_cert_req_id o) 1
   pub cert_req_id : (outgoing_of o).contents.number ≡ outgoing_cert_req_id o
 

@@ -1,4 +1,5 @@
 -- The bytes that a clean reading's spans stand for.
+use Rattle.std.specs.Prelude.{Ok}
 use Prim.Native.Nat.{ℕ, ◌≤◌}
 use mathlib.Core.Path.{◌≡◌}
 use mathlib.Core.List.{List}
@@ -12,7 +13,6 @@ use Rattle.grammar.proofs.Places.{Spot}
 use Rattle.grammar.proofs.Places.Spot.{absent, present}
 use Rattle.grammar.proofs.Found.{Inside}
 use Rattle.grammar.proofs.Spans.{spans_of, All, all_of, spans_inside_lem}
-use Rattle.message.specs.declared.Reading.TheVariants.{Clean}
 use Rattle.message.specs.Read.{reading_of}
 use Rattle.message.proofs.ReadingLaws.{clean_places}
 
@@ -29,5 +29,5 @@ pub inside-bytes : (m : List ℕ) (s : Span) → Inside (span_from 0 (length m))
 inside-bytes m s i = part_length m s (omega (arith, ends_by i))
 
 -- SAME PARTS: of each span of a clean reading the bytes handed out are the message's, from its start on and as many as its length
-pub same_parts : (m : List ℕ) (x : Message) → reading_of m ≡ Clean x → All (Exact m) (spans_of x)
+pub same_parts : (m : List ℕ) (x : Message) → reading_of m ≡ Ok x → All (Exact m) (spans_of x)
 same_parts m x e = all_of (inside-bytes m) (spans_inside_lem (clean_places m x e))

@@ -1,4 +1,5 @@
 -- What a reading says: a clean one has met DER and the grammar and hands out the places found; a refused one names the lowest fault.
+use Rattle.std.specs.Prelude.{Ok, Err}
 use Prim.Native.Nat.{ℕ, ◌<◌, ◌≤◌}
 use mathlib.Core.Path.{◌≡◌, refl, sym, ◌∙◌, ap, subst}
 use mathlib.Core.List.{List}
@@ -20,9 +21,8 @@ use Rattle.grammar.specs.declared.Message.{Message}
 use Rattle.grammar.specs.Message.{message_of}
 use Rattle.grammar.proofs.Found.{FoundIn, found_in}
 use Rattle.grammar.proofs.FaultPlace.{grammar_in}
-use Rattle.message.specs.declared.Reading.{Reading}
+use Rattle.message.specs.Types.{Reading}
 use Rattle.message.specs.declared.ReadFault.{ReadFault}
-use Rattle.message.specs.declared.Reading.TheVariants.{Clean, Refused}
 use Rattle.message.specs.Read.{max_message, broken_at, lowest, reading_of}
 
 -- ## The statements
@@ -63,8 +63,8 @@ pub record BrokenAt (m : List ℕ) (r : ReadFault) : Type 0 where
 
 -- what each reading says of the bytes
 unfoldable pub Says : List ℕ → Reading → Type 0
-Says m (Clean x) = CleanOf m x
-Says m (Refused r) = ((r.number ≡ 1) × NoLength m) ⊎ BrokenAt m r
+Says m (Ok x) = CleanOf m x
+Says m (Err r) = ((r.number ≡ 1) × NoLength m) ⊎ BrokenAt m r
 
 -- ## Each case
 
@@ -109,19 +109,19 @@ says m =
 -- ## What a user of the reader may rely on
 
 -- CLEAN: a clean reading is of a message of 1 to max_message bytes that is DER and meets the grammar, and it is what the grammar found
-pub clean_found : (m : List ℕ) (x : Message) → reading_of m ≡ Clean x → CleanOf m x
+pub clean_found : (m : List ℕ) (x : Message) → reading_of m ≡ Ok x → CleanOf m x
 unfolding Says
 clean_found m x e = subst (Says m) e (says m)
 
 -- EVERY PLACE: every place that a clean reading names lies inside the message and inside its parent
-pub clean_places : (m : List ℕ) (x : Message) → reading_of m ≡ Clean x → FoundIn (length m) x
+pub clean_places : (m : List ℕ) (x : Message) → reading_of m ≡ Ok x → FoundIn (length m) x
 clean_places m x e = let c = clean_found m x e in subst (FoundIn (length m)) (sym c.found) (found_in m c.met)
 
 below_or_at : (a n : ℕ) → a ≤ n → (a < n) ⊎ (a ≡ n)
 below_or_at a n h = cond_both (λ (b : Bool). (a < n) ⊎ (a ≡ n)) (ltb a n) {x = true} {y = false} (λ t. inl (ltb-true a n t)) (λ t. inr (omega (arith, ltb-false a n t)))
 
 -- LOWEST FAULT: refusal 2 names the lowest of the two faults, and DER's where both stand at one offset
-pub refused-lowest : (m : List ℕ) (r : ReadFault) → reading_of m ≡ Refused r → r.number ≡ 2 → Lowest m r.at.0 r.rule
+pub refused-lowest : (m : List ℕ) (r : ReadFault) → reading_of m ≡ Err r → r.number ≡ 2 → Lowest m r.at.0 r.rule
 unfolding Says
 refused-lowest m r e n = go (subst (Says m) e (says m))
   where
@@ -130,7 +130,7 @@ refused-lowest m r e n = go (subst (Says m) e (says m))
     go (inr b) = b.lowest
 
 -- IN THE MESSAGE: refusal 2 names an offset in the message, or its end where the grammar misses a part there
-pub refused-inside : (m : List ℕ) (r : ReadFault) → reading_of m ≡ Refused r → r.number ≡ 2 → (r.at.0 < length m) ⊎ ((r.at.0 ≡ length m) × (r.rule ≡ 5))
+pub refused-inside : (m : List ℕ) (r : ReadFault) → reading_of m ≡ Err r → r.number ≡ 2 → (r.at.0 < length m) ⊎ ((r.at.0 ≡ length m) × (r.rule ≡ 5))
 unfolding check
 refused-inside m r e n =
     ⊎_elim (λ d. inl (omega (arith, (fault_in max_depth 0 m d.0).1)))
@@ -139,19 +139,19 @@ refused-inside m r e n =
 
 -- the reading is a refusal with this number
 unfoldable pub Numbered : ℕ → Reading → Type 0
-Numbered n (Clean x) = ⊥
-Numbered n (Refused r) = r.number ≡ n
+Numbered n (Ok x) = ⊥
+Numbered n (Err r) = r.number ≡ n
 
 -- NO OTHER NUMBER: a reading is clean or refused by 1 or by 2
-pub refused-only : (m : List ℕ) (r : ReadFault) → reading_of m ≡ Refused r → (r.number ≡ 1) ⊎ (r.number ≡ 2)
+pub refused-only : (m : List ℕ) (r : ReadFault) → reading_of m ≡ Err r → (r.number ≡ 1) ⊎ (r.number ≡ 2)
 unfolding Says
 refused-only m r e = ⊎_elim (λ p. inl p.0) (λ b. inr b.number) (subst (Says m) e (says m))
 
 one-to : (m : List ℕ) (v : Reading) → Says m v → Numbered 1 v → NoLength m
 unfolding Says Numbered
-one-to m (Clean x) s n = absurd n
-one-to m (Refused r) (inl p) n = p.1
-one-to m (Refused r) (inr b) n = absurd (omega (arith, b.number))
+one-to m (Ok x) s n = absurd n
+one-to m (Err r) (inl p) n = p.1
+one-to m (Err r) (inr b) n = absurd (omega (arith, b.number))
 
 no_length : (m : List ℕ) → NoLength m → 1 ≤ length m → length m ≤ max_message → ⊥
 no_length m (inl e) a b = omega arith
@@ -159,9 +159,9 @@ no_length m (inr e) a b = omega arith
 
 one_of : (m : List ℕ) (v : Reading) → Says m v → NoLength m → Numbered 1 v
 unfolding Says Numbered
-one_of m (Clean x) s n = no_length m n s.some s.few
-one_of m (Refused r) (inl p) n = p.0
-one_of m (Refused r) (inr b) n = absurd (no_length m n b.some b.few)
+one_of m (Ok x) s n = no_length m n s.some s.few
+one_of m (Err r) (inl p) n = p.0
+one_of m (Err r) (inr b) n = absurd (no_length m n b.some b.few)
 
 -- REFUSAL 1 EXACTLY: a message is refused by 1 exactly where its length is 0 or above max_message
 pub refused_1_exactly : (m : List ℕ) → Numbered 1 (reading_of m) ↔ NoLength m
@@ -169,15 +169,15 @@ refused_1_exactly m = (one-to m (reading_of m) (says m), one_of m (reading_of m)
 
 two_to : (m : List ℕ) (v : Reading) → Says m v → Numbered 2 v → Broken m
 unfolding Says Numbered
-two_to m (Clean x) s n = absurd n
-two_to m (Refused r) (inl p) n = absurd (omega (arith, p.0))
-two_to m (Refused r) (inr b) n = ⊎_elim (λ e. inl (ap is_sound e.0)) (λ e. inr e.0) b.lowest.named
+two_to m (Ok x) s n = absurd n
+two_to m (Err r) (inl p) n = absurd (omega (arith, p.0))
+two_to m (Err r) (inr b) n = ⊎_elim (λ e. inl (ap is_sound e.0)) (λ e. inr e.0) b.lowest.named
 
 two_of : (m : List ℕ) → 1 ≤ length m → length m ≤ max_message → (v : Reading) → Says m v → Broken m → Numbered 2 v
 unfolding Says Numbered
-two_of m some few (Clean x) s n = ⊎_elim (λ e. true≢false (sym (ap is_sound s.sound) ∙ e)) (λ e. true≢false (sym s.met ∙ e)) n
-two_of m some few (Refused r) (inl p) n = absurd (no_length m p.1 some few)
-two_of m some few (Refused r) (inr b) n = b.number
+two_of m some few (Ok x) s n = ⊎_elim (λ e. true≢false (sym (ap is_sound s.sound) ∙ e)) (λ e. true≢false (sym s.met ∙ e)) n
+two_of m some few (Err r) (inl p) n = absurd (no_length m p.1 some few)
+two_of m some few (Err r) (inr b) n = b.number
 
 -- REFUSAL 2 EXACTLY: a message of 1 to max_message bytes is refused by 2 exactly where it is not DER or does not meet the grammar
 pub refused_2_exactly : (m : List ℕ) → 1 ≤ length m → length m ≤ max_message → Numbered 2 (reading_of m) ↔ Broken m

@@ -1,12 +1,11 @@
 -- Reading a message: the check of the whole as DER, and the grammar. The fault named is the lower one of the two.
-use Rattle.std.specs.Prelude.{ℕ, ◌+◌, List, cond, ◌||◌, length, ltb, eqb}
+use Rattle.std.specs.Prelude.{ℕ, ◌+◌, List, cond, ◌||◌, length, ltb, eqb, Ok, Err}
 use Rattle.der.specs.declared.Offset.{Offset}
 use Rattle.der.specs.Element.{check}
 use Rattle.der.specs.declared.element.Check.{Check}
 use Rattle.der.specs.declared.element.Check.TheVariants.{Sound, Fault}
 use Rattle.grammar.specs.declared.Message.{Message}
-use Rattle.message.specs.declared.Reading.{Reading}
-use Rattle.message.specs.declared.Reading.TheVariants.{Clean, Refused}
+use Rattle.message.specs.Types.{Reading}
 use Rattle.grammar.specs.declared.pki_message.MessageRead.{MessageRead}
 use Rattle.grammar.specs.Message.{message_of}
 
@@ -16,15 +15,15 @@ max_message = 16384
 
 -- refusal 1: length 0 or above the limit
 abbrev pub bad_length : Reading
-bad_length = Refused (record { number = 1; at = record { 0 = 0 }; rule = 0 })
+bad_length = Err (record { number = 1; at = record { 0 = 0 }; rule = 0 })
 
 -- refusal 2: not DER or not the grammar, at an offset, by the lowest rule broken there
 abbrev pub broken_at : Offset → ℕ → Reading
-broken_at at rule = Refused (record { number = 2; at = at; rule = rule })
+broken_at at rule = Err (record { number = 2; at = at; rule = rule })
 
 -- the lower of the two faults, if there is one; at one offset DER's rules 1 to 4 come before the grammar's 5
 unfoldable pub lowest : Check → MessageRead → Reading
-lowest Sound g = cond g.met (Clean g.found) (broken_at g.at 5)
+lowest Sound g = cond g.met (Ok g.found) (broken_at g.at 5)
 lowest (Fault at rule) g = cond g.met (broken_at at rule) (cond (ltb g.at.0 at.0) (broken_at g.at 5) (broken_at at rule))
 
 unfoldable pub reading_of : List ℕ → Reading

@@ -21,16 +21,13 @@ pub struct ReadFault {
     pub rule: u8,
 }
 
-#[derive(Clone, Copy)]
-pub enum Reading {
-    Clean(Message),
-    Refused(ReadFault),
-}
+// A message that reads, with all that was found; or its refusal.
+pub type Reading = Result<Message, ReadFault>;
 
 fn broken_at(at: Offset, rule: u8) -> Reading
     ensures { result ≡ broken_at at rule }
 {
-    Reading::Refused(ReadFault {
+    Err(ReadFault {
         number: 2,
         at,
         rule,
@@ -58,7 +55,7 @@ fn lowest_fault(c: Check, g: MessageRead) -> Reading
         Check::Sound => {
             if g.met {
                 let found = g.found;
-                return Reading::Clean(found);
+                return Ok(found);
             }
             broken_at(g.at, 5)
         }
@@ -84,7 +81,7 @@ pub fn read(message: &[u8]) -> Reading
 fn too_short_or_long() -> Reading
     ensures { result ≡ bad_length }
 {
-    Reading::Refused(ReadFault {
+    Err(ReadFault {
         number: 1,
         at: Offset(0),
         rule: 0,

@@ -18,7 +18,7 @@ fn blank() -> OutgoingContents
         has_status: false,
         status: 0,
         hash: no_hash(),
-        failure: FailureInfo::NoBit,
+        failure: None,
         has_number: false,
         number: 0,
     }

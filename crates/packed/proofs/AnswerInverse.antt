@@ -8,7 +8,7 @@ use borrow.Author.Tests.{leb-true, lt-ltb}
 use lib.ListN.{length, drop, get_or}
 use lib.Seq.{sets-eq}
 use lib.Dec.{leb}
-use Rattle.protocol.specs.declared.FailureInfo.{FailureInfo}
+use Rattle.protocol.specs.Types.{FailureInfo}
 use Rattle.protocol.specs.declared.Outcome.{Outcome}
 use Rattle.protocol.specs.declared.Outcome.TheVariants.{Done, Again, Refused}
 use Rattle.protocol.specs.declared.RegistrarAnswer.{RegistrarAnswer}

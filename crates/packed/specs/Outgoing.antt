@@ -1,7 +1,6 @@
 -- A message to be sent, in bytes, at an offset of an answer.
-use Rattle.std.specs.Prelude.{ℕ, List, [], ◌∷◌, ◌++◌, true, false, cond, ◌≡◌, length, get_or, eqb}
-use Rattle.protocol.specs.declared.FailureInfo.{FailureInfo}
-use Rattle.protocol.specs.declared.FailureInfo.TheVariants.{NoBit, Bit}
+use Rattle.std.specs.Prelude.{ℕ, List, [], ◌∷◌, ◌++◌, true, false, cond, ◌≡◌, length, get_or, eqb, Some, None}
+use Rattle.protocol.specs.Types.{FailureInfo}
 use Rattle.protocol.specs.declared.OutgoingContents.{OutgoingContents}
 use Rattle.protocol.specs.declared.Outgoing.{Outgoing}
 use Rattle.protocol.specs.Bytes.{zeros}
@@ -11,11 +10,11 @@ use Rattle.packed.specs.Places.{id_bytes, nonce_bytes, hash_bytes, outgoing_kind
 
 -- a PKIFailureInfo bit; 255: none
 abbrev pub failure_number : FailureInfo → ℕ
-failure_number NoBit = 255
-failure_number (Bit b) = b
+failure_number None = 255
+failure_number (Some b) = b
 
 abbrev pub failure_of : ℕ → FailureInfo
-failure_of n = cond (eqb n 255) NoBit (Bit n)
+failure_of n = cond (eqb n 255) None (Some n)
 
 abbrev pub outgoing_bytes : ℕ
 outgoing_bytes = outgoing_end

@@ -21,8 +21,8 @@ pub(crate) fn failure_number(f: FailureInfo) -> u8
     ensures { result ≡ failure_number f }
 {
     match f {
-        FailureInfo::NoBit => 255,
-        FailureInfo::Bit(b) => b,
+        None => 255,
+        Some(b) => b,
     }
 }
 
@@ -77,9 +77,9 @@ fn failure_of(n: u8) -> FailureInfo
     ensures { result ≡ failure_of n }
 {
     if n == 255 {
-        return FailureInfo::NoBit;
+        return None;
     }
-    FailureInfo::Bit(n)
+    Some(n)
 }
 
 // What only some kinds carry, of the message that the bytes hold.

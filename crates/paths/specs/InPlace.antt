@@ -1,12 +1,11 @@
 -- Demand 2, "each field is found exactly where the standard puts it": what holds of a message x that was read from the bytes m.
-use Rattle.std.specs.Prelude.{ℕ, ◌+◌, ◌≤◌, ◌≡◌, List, ◌↔◌, ◌≢◌, length}
+use Rattle.std.specs.Prelude.{ℕ, ◌+◌, ◌≤◌, ◌≡◌, List, ◌↔◌, ◌≢◌, length, Ok}
 use Rattle.std.proofs.Math.Option.{none}
 use Rattle.der.specs.Head.{head_of}
 use Rattle.der.specs.declared.head.Head.TheVariants.{Whole}
 use Rattle.grammar.specs.declared.Span.{Span}
 use Rattle.grammar.specs.Span.{part_of}
 use Rattle.grammar.specs.declared.Message.{Message}
-use Rattle.message.specs.declared.Reading.TheVariants.{Clean}
 use Rattle.message.specs.Read.{reading_of}
 use Rattle.paths.specs.Walk.{walk}
 use Rattle.paths.specs.Walk.Step.{any, option, only}
@@ -38,7 +37,7 @@ pub record InPlace (m : List ℕ) (x : Message) : Type 0 where
 
 -- THE THEOREM: `as_the_standard_says` in proofs/Theorem.antt
 abbrev pub AsTheStandardSays : Type 0
-AsTheStandardSays = (m : List ℕ) (x : Message) → reading_of m ≡ Clean x → InPlace m x
+AsTheStandardSays = (m : List ℕ) (x : Message) → reading_of m ≡ Ok x → InPlace m x
 
 -- ## Every part that is an element, whole
 
@@ -91,4 +90,4 @@ pub record WholeElements (m : List ℕ) (x : Message) : Type 0 where
 
 -- THE THEOREM: `all_whole` in proofs/Theorem.antt
 abbrev pub AllWhole : Type 0
-AllWhole = (m : List ℕ) (x : Message) → reading_of m ≡ Clean x → WholeElements m x
+AllWhole = (m : List ℕ) (x : Message) → reading_of m ≡ Ok x → WholeElements m x

@@ -1,4 +1,5 @@
 -- Demand 2: a confirmation moves a transaction exactly when it matches.
+use Rattle.std.specs.Prelude.{Ok, Some, None}
 use Prim.Native.Nat.{ℕ}
 use mathlib.Core.List.{List}
 use mathlib.Core.Bool.{Bool, true, false, not, cond, ◌&&◌}
@@ -10,10 +11,9 @@ use lib.Dec.{eqb}
 use Rattle.message.specs.Read.{reading_of}
 use Rattle.grammar.specs.declared.Span.{Span}
 use Rattle.grammar.specs.declared.Message.{Message}
-use Rattle.message.specs.declared.Reading.TheVariants as read
 use Rattle.protocol.specs.declared.Board.{Board}
 use Rattle.protocol.specs.declared.Hash.{Hash}
-use Rattle.protocol.specs.declared.Verdict.{Verdict}
+use Rattle.protocol.specs.Types.{Verdict}
 use Rattle.protocol.specs.declared.RegistrarInput.{RegistrarInput}
 use Rattle.protocol.specs.declared.TransactionState.{TransactionState}
 use Rattle.protocol.specs.declared.Transaction.{Transaction}
@@ -21,7 +21,6 @@ use Rattle.protocol.specs.declared.TransactionTable.{TransactionTable}
 use Rattle.protocol.specs.declared.Outcome.{Outcome}
 use Rattle.protocol.specs.declared.RegistrarAnswer.{RegistrarAnswer}
 use Rattle.protocol.specs.declared.Outcome.TheVariants as outcome
-use Rattle.protocol.specs.declared.Verdict.TheVariants.{Bad, Good}
 use Rattle.protocol.specs.declared.TransactionState.TheVariants as at_registrar
 use Rattle.protocol.specs.Bytes.{as_id}
 use Rattle.grammar.specs.Span.{part_of}
@@ -63,9 +62,9 @@ is_sixteen x e = holds_not (eqb (length x) 16) (same_number_lem (length x) 16 e)
 pub present_test : (bytes : List ℕ) (s : Span) (x : List ℕ) → Sixteen bytes s x → not_sixteen (optional_part bytes s) ≡ false
 present_test bytes s x h = ap not_sixteen (part_there bytes s x (h.0, h.1)) ∙ is_sixteen x h.2
 
-names-good : (v : Verdict) (b : Board) → names v b ≡ true → v ≡ Good b
-names-good Bad b e = true_false (sym e)
-names-good (Good a) b e = ap Good (board_eq a b (eqb_eq a.0 b.0 e))
+names-good : (v : Verdict) (b : Board) → names v b ≡ true → v ≡ Some b
+names-good None b e = true_false (sym e)
+names-good (Some a) b e = ap Some (board_eq a b (eqb_eq a.0 b.0 e))
 
 module _ (t : TransactionTable) (d : RegistrarInput) (bytes : List ℕ) (m : Message) where
   abbrev f : Fields
@@ -78,7 +77,7 @@ module _ (t : TransactionTable) (d : RegistrarInput) (bytes : List ℕ) (m : Mes
   unfolding registrar_fields
   fields_at g h c e = rw (h, e)
 
-  pub message-at : reading_of bytes ≡ read.Clean m → registrar_message t d bytes ≡ registrar_fields t d f
+  pub message-at : reading_of bytes ≡ Ok m → registrar_message t d bytes ≡ registrar_fields t d f
   unfolding registrar_message registrar_read
   message-at e = rw e
 
@@ -91,7 +90,7 @@ module _ (t : TransactionTable) (d : RegistrarInput) (bytes : List ℕ) (m : Mes
   status-known true h e k = k
   status-known false h e k = true_false (sym e)
 
-  matches : reading_of bytes ≡ read.Clean m → (r : Transaction) → lookup rs (as_id f.id) ≡ some r → lowest_row (registrar_rows rs (some r) d.verdict f) ≡ pass → confirms f ≡ true → Matches t d bytes m r
+  matches : reading_of bytes ≡ Ok m → (r : Transaction) → lookup rs (as_id f.id) ≡ some r → lowest_row (registrar_rows rs (some r) d.verdict f) ≡ pass → confirms f ≡ true → Matches t d bytes m r
   unfolding fields_of
   matches reads r h e k =
       let p : (is_present m.protection && is_present m.header.protection_alg) ≡ true = protected_it rs r d.verdict f e k in
@@ -125,7 +124,7 @@ module _ (t : TransactionTable) (d : RegistrarInput) (bytes : List ℕ) (m : Mes
   leads_by false h s e (inl c) = inl (c, inl h)
   leads_by false h s e (inr c) = true_false (sym e ∙ ap (λ (z : TransactionState). settled_by z 0) c)
 
-  repeating : reading_of bytes ≡ read.Clean m → (r : Transaction) → lookup rs (as_id f.id) ≡ some r → lowest_row (registrar_rows rs (some r) d.verdict f) ≡ pass → confirms f ≡ true → is_granted r.state ≡ false → Repeating t d bytes m r
+  repeating : reading_of bytes ≡ Ok m → (r : Transaction) → lookup rs (as_id f.id) ≡ some r → lowest_row (registrar_rows rs (some r) d.verdict f) ≡ pass → confirms f ≡ true → is_granted r.state ≡ false → Repeating t d bytes m r
   unfolding fields_of matches
   repeating reads r h e k g =
       let n : Sixteen bytes m.header.sender_nonce (part_of bytes m.header.sender_nonce) = sixteen bytes m.header.sender_nonce (sender_it rs r d.verdict f e k) in
@@ -142,7 +141,7 @@ module _ (t : TransactionTable) (d : RegistrarInput) (bytes : List ℕ) (m : Mes
   Ends r outcome.Again = Repeating t d bytes m r
   Ends r (outcome.Refused n b) = ⊥
 
-  passed_at : reading_of bytes ≡ read.Clean m → (r : Transaction) → lookup rs (as_id f.id) ≡ some r → lowest_row (registrar_rows rs (some r) d.verdict f) ≡ pass → confirms f ≡ true → (b : Bool) → is_granted r.state ≡ b → Ends r (confirmed t r d.nonce f).outcome
+  passed_at : reading_of bytes ≡ Ok m → (r : Transaction) → lookup rs (as_id f.id) ≡ some r → lowest_row (registrar_rows rs (some r) d.verdict f) ≡ pass → confirms f ≡ true → (b : Bool) → is_granted r.state ≡ b → Ends r (confirmed t r d.nonce f).outcome
   unfolding Ends
   passed_at reads r h e k true g = rw g (record { match = matches reads r h e k; granted = is-granted r.state g })
   passed_at reads r h e k false g = rw g (repeating reads r h e k g)
@@ -159,14 +158,14 @@ module _ (t : TransactionTable) (d : RegistrarInput) (bytes : List ℕ) (m : Mes
   some_end r outcome.Again e = (r, e)
   some_end r (outcome.Refused n b) e = tt
 
-  ends_by : reading_of bytes ≡ read.Clean m → f.kind ≡ 24 → (g : Option Transaction) → lookup rs (as_id f.id) ≡ g → (c : LowestRow) → lowest_row (registrar_rows rs g d.verdict f) ≡ c → EndsWith (registrar_checked c g t d f).outcome
+  ends_by : reading_of bytes ≡ Ok m → f.kind ≡ 24 → (g : Option Transaction) → lookup rs (as_id f.id) ≡ g → (c : LowestRow) → lowest_row (registrar_rows rs g d.verdict f) ≡ c → EndsWith (registrar_checked c g t d f).outcome
   unfolding registrar_checked EndsWith
   ends_by reads k g h (stop n) e = tt
   ends_by reads k g h pass e =
       taken_by t d f (λ (a : RegistrarAnswer). EndsWith a.outcome) g e (λ o _ _. true_false (sym o ∙ ap is_opening_kind k))
       (λ r c n p. some_end r _ (passed_at reads r (h ∙ n) p c (is_granted r.state) refl))
 
-  pub ends : reading_of bytes ≡ read.Clean m → m.body.kind ≡ 24 → EndsWith (registrar_message t d bytes).outcome
+  pub ends : reading_of bytes ≡ Ok m → m.body.kind ≡ 24 → EndsWith (registrar_message t d bytes).outcome
   unfolding fields_of
   ends reads k =
       let g : Option Transaction = lookup rs (as_id f.id) in

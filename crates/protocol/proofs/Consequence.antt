@@ -17,7 +17,7 @@ use Rattle.protocol.specs.Message.{cert_conf}
 use Rattle.protocol.specs.Table.{lookup}
 use Rattle.protocol.specs.States.{settled_by}
 use Rattle.protocol.specs.Run.{Event, End, World, BoardEnrolment, OneBoard}
-use Rattle.protocol.specs.Agreement.{Fair, Issued, Confirmation, ClosedSince, RegistrarHolds, Holds, FoundUntilClosed, BoardOf, Some, SaysConfirmed, AgreesOrBetween, Agreement}
+use Rattle.protocol.specs.Agreement.{Fair, Issued, Confirmation, ClosedSince, RegistrarHolds, Holds, FoundUntilClosed, BoardOf, SomeEvent, SaysConfirmed, AgreesOrBetween, Agreement}
 use Rattle.protocol.proofs.Tests.{some_some, true_false}
 use Rattle.protocol.proofs.RegistrarStates.{is-confirmed, is-declined}
 use Rattle.protocol.proofs.EnrolmentStates.{has_confirmed, is_answered, may_be_sure, stands_for}
@@ -93,7 +93,7 @@ module _ (w : World) (v : Inv w) (f : Fair w.past) where
       let q : s.held ≡ x = same_place s.place k s.held x s.holds h p in
       true_false (sym s.state ∙ ap (λ (y : BoardEnrolment). stands_for y.enrolment.state o.contents.status) q ∙ n o.contents.status)
 
-  failed : (k : ℕ) (x : BoardEnrolment) → Holds w k x → x.enrolment.state ≡ Failed → Some (λ e. SaysConfirmed e.table x.enrolment.id) w.past → ⊥
+  failed : (k : ℕ) (x : BoardEnrolment) → Holds w k x → x.enrolment.state ≡ Failed → SomeEvent (λ e. SaysConfirmed e.table x.enrolment.id) w.past → ⊥
   failed k x h e s = let a : Accepted w.past x.enrolment.id = v.said x.enrolment.id s in none-sent k x h (λ s. rw e) a.board a.message a.issued a.kind a.id
 
   neither : (k : ℕ) (x : BoardEnrolment) → Holds w k x → ((s : ℕ) → stands_for x.enrolment.state s ≡ false) → (r : Transaction) → RegistrarHolds w.table x.enrolment.id r → (r.state ≡ at_registrar.Confirmed → ⊥) × (r.state ≡ at_registrar.Declined → ⊥)

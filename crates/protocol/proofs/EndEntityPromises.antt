@@ -1,4 +1,5 @@
 -- Every call of an end entity keeps demand 1's promise, on any enrolment.
+use Rattle.std.specs.Prelude.{Ok, Err}
 use Prim.Native.Nat.{ℕ}
 use mathlib.Core.List.{List, [], ◌∷◌}
 use mathlib.Core.Bool.{Bool, true, false, cond, ◌||◌}
@@ -8,14 +9,13 @@ use native.Mathlib.Omega.{arith}
 use lib.Dec.{eqb}
 use Rattle.message.specs.declared.ReadFault.{ReadFault}
 use Rattle.message.specs.Read.{reading_of}
-use Rattle.message.specs.declared.Reading.{Reading}
-use Rattle.message.specs.declared.Reading.TheVariants as read
+use Rattle.message.specs.Types.{Reading}
 use Rattle.protocol.specs.declared.TransactionId.{TransactionId}
 use Rattle.protocol.specs.declared.FreshNonce.{FreshNonce}
 use Rattle.protocol.specs.declared.EndEntityInput.{EndEntityInput}
 use Rattle.protocol.specs.declared.EnrolmentState.{EnrolmentState}
 use Rattle.protocol.specs.declared.Enrolment.{Enrolment}
-use Rattle.protocol.specs.declared.FailureInfo.{FailureInfo}
+use Rattle.protocol.specs.Types.{FailureInfo}
 use Rattle.protocol.specs.declared.Outgoing.{Outgoing}
 use Rattle.protocol.specs.declared.EndEntityAnswer.{EndEntityAnswer}
 use Rattle.protocol.specs.declared.Outcome.TheVariants as outcome
@@ -97,8 +97,8 @@ module _ (x : Enrolment) where
 
   read_promise : (d : EndEntityInput) (bytes : List ℕ) (r : Reading) → Kept (end_entity_read r x d bytes)
   unfolding end_entity_read
-  read_promise d bytes (read.Refused f) = refusing end_entity_numbers (read_refusal f) _ _ (read_number_lem (eqb f.number 1))
-  read_promise d bytes (read.Clean m) = checked_promise d (fields_of bytes m) (lowest_row (end_entity_rows x d.good (fields_of bytes m))) refl
+  read_promise d bytes (Err f) = refusing end_entity_numbers (read_refusal f) _ _ (read_number_lem (eqb f.number 1))
+  read_promise d bytes (Ok m) = checked_promise d (fields_of bytes m) (lowest_row (end_entity_rows x d.good (fields_of bytes m))) refl
 
   pub message-promise : (d : EndEntityInput) (bytes : List ℕ) → Kept (end_entity_message x d bytes)
   unfolding end_entity_message

@@ -1,4 +1,5 @@
 -- Each call on an enrolment shows an EndEntityStep: a time out and a message.
+use Rattle.std.specs.Prelude.{Ok, Err}
 use Prim.Native.Nat.{ℕ}
 use mathlib.Core.List.{List}
 use mathlib.Core.Bool.{Bool, true, false, not, ◌&&◌, ◌||◌}
@@ -9,8 +10,7 @@ use lib.ListN.{set}
 use lib.Dec.{eqb}
 use Rattle.message.specs.Read.{reading_of}
 use Rattle.grammar.specs.declared.Message.{Message}
-use Rattle.message.specs.declared.Reading.{Reading}
-use Rattle.message.specs.declared.Reading.TheVariants as read
+use Rattle.message.specs.Types.{Reading}
 use Rattle.protocol.specs.declared.Nonce.{Nonce}
 use Rattle.protocol.specs.declared.FreshNonce.{FreshNonce}
 use Rattle.protocol.specs.declared.Hash.{Hash}
@@ -169,7 +169,7 @@ module _ (w : World) (v : Inv w) (k : ℕ) (x : BoardEnrolment) (here : At w.enr
           recip = recip_read bytes m o c x.enrolment.last (v.acknowledges o i (sym (kind_read bytes m o c) ∙ t)).0.answers recip_it;
         }
 
-    answered_with : (g : Bool) → g ≡ true → ByReading g bytes (read.Clean m) w.past → f.kind ≡ pki_conf → Answered w.past x
+    answered_with : (g : Bool) → g ≡ true → ByReading g bytes (Ok m) w.past → f.kind ≡ pki_conf → Answered w.past x
     answered_with true q (o, i, c) t = answered_by o i c t
     answered_with false q z t = true_false (sym q)
 
@@ -183,7 +183,7 @@ module _ (w : World) (v : Inv w) (k : ℕ) (x : BoardEnrolment) (here : At w.enr
         not_false (is_waiting x.enrolment.state)
         (and_false (responds f) (not (is_waiting x.enrolment.state)) (or_false_left A B (or_false_left (A || B) C (passes 20 rows e))) r)
 
-    passed : ByReading d.good bytes (read.Clean m) w.past → EnrolmentStep (end_entity_checked pass x.enrolment d f)
+    passed : ByReading d.good bytes (Ok m) w.past → EnrolmentStep (end_entity_checked pass x.enrolment d f)
     passed honest =
         passes-by x.enrolment d f EnrolmentStep e (λ p. assures (answered_with d.good good_it honest (eqb_eq f.kind pki_conf p))) (λ _. breaks)
         (λ r. cases EnrolmentStep (eqb (status_or0 f.status) 2) _ _ (λ _. fails (waits r)) (λ _. decides d.accept d.hash d.nonce (as_nonce f.sender_nonce) (waits r)))
@@ -193,15 +193,15 @@ module _ (w : World) (v : Inv w) (k : ℕ) (x : BoardEnrolment) (here : At w.enr
   unfolding after_refusal
   refused-after n f = refused n
 
-  checked : (bytes : List ℕ) (m : Message) (d : EndEntityInput) → ByReading d.good bytes (read.Clean m) w.past → (c : LowestRow) → lowest_row (end_entity_rows x.enrolment d.good (fields_of bytes m)) ≡ c → EnrolmentStep (end_entity_checked c x.enrolment d (fields_of bytes m))
+  checked : (bytes : List ℕ) (m : Message) (d : EndEntityInput) → ByReading d.good bytes (Ok m) w.past → (c : LowestRow) → lowest_row (end_entity_rows x.enrolment d.good (fields_of bytes m)) ≡ c → EnrolmentStep (end_entity_checked c x.enrolment d (fields_of bytes m))
   unfolding end_entity_checked
   checked bytes m d q (stop t) e = refused-after t (fields_of bytes m)
   checked bytes m d q pass e = passed bytes m d e q
 
   read_step : (bytes : List ℕ) (d : EndEntityInput) (r : Reading) → ByReading d.good bytes r w.past → EnrolmentStep (end_entity_read r x.enrolment d bytes)
   unfolding end_entity_read
-  read_step bytes d (read.Refused t) q = refused (read_refusal t)
-  read_step bytes d (read.Clean m) q = checked bytes m d q (lowest_row (end_entity_rows x.enrolment d.good (fields_of bytes m))) refl
+  read_step bytes d (Err t) q = refused (read_refusal t)
+  read_step bytes d (Ok m) q = checked bytes m d q (lowest_row (end_entity_rows x.enrolment d.good (fields_of bytes m))) refl
 
   pub message-step : (bytes : List ℕ) (d : EndEntityInput) → SenderIssued (ToEndEntity k bytes d) w.past → EnrolmentStep (end_entity_message x.enrolment d bytes)
   unfolding end_entity_message

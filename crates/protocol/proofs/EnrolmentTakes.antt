@@ -1,4 +1,5 @@
 -- What a message at an end entity shows that no row refuses.
+use Rattle.std.specs.Prelude.{Ok}
 use Prim.Native.Nat.{ℕ}
 use mathlib.Core.List.{List}
 use mathlib.Core.Bool.{Bool, true, false, not, ◌&&◌, ◌||◌}
@@ -7,7 +8,6 @@ use mathlib.Core.Logic.{◌⊎◌, inl, inr}
 use lib.ListN.{length}
 use lib.Dec.{eqb}
 use Rattle.message.specs.Read.{reading_of}
-use Rattle.message.specs.declared.Reading.TheVariants as read
 use Rattle.grammar.specs.declared.Message.{Message}
 use Rattle.protocol.specs.declared.EndEntityInput.{EndEntityInput}
 use Rattle.protocol.specs.declared.EnrolmentState.{EnrolmentState}
@@ -58,11 +58,11 @@ module _ (x : Enrolment) (d : EndEntityInput) (bytes : List ℕ) (m : Message) w
   abbrev rows : List Row
   rows = end_entity_rows x d.good f
 
-  pub answer_at : reading_of bytes ≡ read.Clean m → end_entity_message x d bytes ≡ end_entity_checked (lowest_row rows) x d f
+  pub answer_at : reading_of bytes ≡ Ok m → end_entity_message x d bytes ≡ end_entity_checked (lowest_row rows) x d f
   unfolding end_entity_message end_entity_read
   answer_at e = rw e
 
-  module _ (reads : reading_of bytes ≡ read.Clean m) (e : lowest_row rows ≡ pass) where
+  module _ (reads : reading_of bytes ≡ Ok m) (e : lowest_row rows ≡ pass) where
     heard : Heard x d bytes m
     unfolding fields_of end_entity_rows
     heard =
@@ -164,10 +164,10 @@ module _ (x : Enrolment) (d : EndEntityInput) (bytes : List ℕ) (m : Message) w
     pub taken : Heard x d bytes m × (Acknowledges x m ⊎ Reports x m ⊎ ((s : ℕ) × Responds x m s))
     taken = (heard, kinds (acknowledges f) (reports f) refl refl)
 
-  takes_by : reading_of bytes ≡ read.Clean m → (c : LowestRow) → lowest_row rows ≡ c → (end_entity_checked c x d f).outcome ≡ outcome.Done → Heard x d bytes m × (Acknowledges x m ⊎ Reports x m ⊎ ((s : ℕ) × Responds x m s))
+  takes_by : reading_of bytes ≡ Ok m → (c : LowestRow) → lowest_row rows ≡ c → (end_entity_checked c x d f).outcome ≡ outcome.Done → Heard x d bytes m × (Acknowledges x m ⊎ Reports x m ⊎ ((s : ℕ) × Responds x m s))
   unfolding end_entity_checked
   takes_by reads (stop k) e q = done_refused k _ (sym q)
   takes_by reads pass e q = taken reads e
 
-  pub takes-only : reading_of bytes ≡ read.Clean m → (end_entity_message x d bytes).outcome ≡ outcome.Done → Heard x d bytes m × (Acknowledges x m ⊎ Reports x m ⊎ ((s : ℕ) × Responds x m s))
+  pub takes-only : reading_of bytes ≡ Ok m → (end_entity_message x d bytes).outcome ≡ outcome.Done → Heard x d bytes m × (Acknowledges x m ⊎ Reports x m ⊎ ((s : ℕ) × Responds x m s))
   takes-only reads q = takes_by reads (lowest_row rows) refl (ap (λ (a : EndEntityAnswer). a.outcome) (sym (answer_at reads)) ∙ q)

@@ -1,5 +1,6 @@
 -- After any list of calls the table has as many slots as at the beginning; refusal 11 is given to a request only where all of them are in
 -- use, and there unless a lower row applies.
+use Rattle.std.specs.Prelude.{Ok, Err, Some}
 use Prim.Native.Nat.{ℕ, zero, suc, ◌<◌}
 use mathlib.Core.List.{List, [], ◌∷◌}
 use mathlib.Core.Bool.{Bool, true, false, not, ◌||◌}
@@ -8,9 +9,8 @@ use mathlib.Core.Path.{◌≡◌, refl, sym, ◌∙◌, ap}
 use native.Mathlib.Omega.{arith}
 use lib.ListN.{length, get_elem?, length-replicate}
 use Rattle.message.specs.Read.{reading_of}
-use Rattle.message.specs.declared.Reading.{Reading}
+use Rattle.message.specs.Types.{Reading}
 use Rattle.grammar.specs.declared.Message.{Message}
-use Rattle.message.specs.declared.Reading.TheVariants as read
 use Rattle.protocol.specs.declared.Board.{Board}
 use Rattle.protocol.specs.declared.TransactionId.{TransactionId}
 use Rattle.protocol.specs.declared.FreshNonce.{FreshNonce}
@@ -21,7 +21,6 @@ use Rattle.protocol.specs.declared.TransactionTable.{TransactionTable}
 use Rattle.protocol.specs.declared.Enrolment.{Enrolment}
 use Rattle.protocol.specs.declared.RegistrarAnswer.{RegistrarAnswer}
 use Rattle.protocol.specs.declared.EndEntityAnswer.{EndEntityAnswer}
-use Rattle.protocol.specs.declared.FailureInfo.TheVariants.{Bit}
 use Rattle.protocol.specs.declared.Outcome.TheVariants as outcome
 use Rattle.protocol.specs.declared.TransactionState.TheVariants.{Free}
 use Rattle.protocol.specs.Bytes.{present, as_id}
@@ -88,8 +87,8 @@ module _ (t : TransactionTable) where
 
     read_keeps : (bytes : List ℕ) (r : Reading) → Keeps (registrar_read r t d bytes)
     unfolding registrar_read registrar_fields
-    read_keeps bytes (read.Refused f) = record { slots = refl }
-    read_keeps bytes (read.Clean m) = checked_keeps (fields_of bytes m) _ _
+    read_keeps bytes (Err f) = record { slots = refl }
+    read_keeps bytes (Ok m) = checked_keeps (fields_of bytes m) _ _
 
     message_keeps : (bytes : List ℕ) → Keeps (registrar_message t d bytes)
     unfolding registrar_message
@@ -168,7 +167,7 @@ module _ (t : TransactionTable) (size : length t.transactions ≡ capacity) wher
     unfolding fields_of
     from_11 (k, w) = both (opens (fields_of bytes m)) (not (has_free_slot t.transactions)) (request-kind m.body.kind k) (ap not (none_free w))
 
-bit_11 : (c : Bool) → bit_of 11 c ≡ Bit 24
+bit_11 : (c : Bool) → bit_of 11 c ≡ Some 24
 unfolding bit_of
 bit_11 true = refl
 bit_11 false = refl
@@ -176,7 +175,7 @@ bit_11 false = refl
 pub registrar_means_11 : Means11
 unfolding registrar_rows
 registrar_means_11 calls d bytes m e =
-    registrar_means 11 (run calls).table d bytes m e _ (Bit 24) bit_11 refl
+    registrar_means 11 (run calls).table d bytes m e _ (Some 24) bit_11 refl
     (λ a h. to_11 (run calls).table (slots_stay calls) bytes m a)
     (λ w. from_11 (run calls).table (slots_stay calls) bytes m w)
 
@@ -208,7 +207,7 @@ module _ (t : TransactionTable) (size : length t.transactions ≡ capacity) (ful
   unfolding fields_of
   id-is = ap as_id (part_there bytes m.header.transaction_id c.id.bytes (c.has_id.0, c.has_id.1))
 
-  refused_11 : lookup t.transactions c.id ≡ none → (registrar_message t d bytes).outcome ≡ outcome.Refused 11 (Bit 24)
+  refused_11 : lookup t.transactions c.id ≡ none → (registrar_message t d bytes).outcome ≡ outcome.Refused 11 (Some 24)
   unfolding registrar_checked
   refused_11 u =
       ap (λ (a : RegistrarAnswer). a.outcome) (message-at t d bytes m c.reads ∙ fields_at t d bytes m none (ap (lookup t.transactions) id-is ∙ u) (stop 11) lowest_11)

@@ -16,7 +16,7 @@ use Rattle.protocol.specs.Message.{cert_conf, pki_conf}
 use Rattle.protocol.specs.Table.{lookup}
 use Rattle.protocol.specs.States.{settled_by, has_sent}
 use Rattle.protocol.specs.Run.{BoardEnrolment, Event, OneBoard, TheRegistrar, World}
-use Rattle.protocol.specs.Agreement.{Issued, ClosedSince, Some, SaysConfirmed}
+use Rattle.protocol.specs.Agreement.{Issued, ClosedSince, SomeEvent, SaysConfirmed}
 use Rattle.protocol.proofs.EnrolmentStates.{stands_for, has_confirmed, is_answered}
 use Rattle.protocol.proofs.Lookup.{Unique}
 
@@ -114,9 +114,9 @@ pub record Inv (w : World) : Type 0 where
   -- a transaction that says Confirmed or Declined was settled by a certConf that its board issued
   pub settled : (i : TransactionId) (r : Transaction) (s : ℕ) → lookup w.table.transactions i ≡ some r → settled_by r.state s ≡ true → SettledBy w.past i r s
   -- where the registrar ever said Confirmed, a board had issued a certConf of status 0
-  pub said : (i : TransactionId) → Some (λ e. SaysConfirmed e.table i) w.past → Accepted w.past i
+  pub said : (i : TransactionId) → SomeEvent (λ e. SaysConfirmed e.table i) w.past → Accepted w.past i
   -- the id of an enrolment was drawn
-  pub drawn : (k : ℕ) (x : BoardEnrolment) → At w.enrolments k x → Some (λ e. e.drawn ≡ some x.enrolment.id) w.past
+  pub drawn : (k : ℕ) (x : BoardEnrolment) → At w.enrolments k x → SomeEvent (λ e. e.drawn ≡ some x.enrolment.id) w.past
   -- two enrolments have two ids
   pub distinct : (j k : ℕ) (x y : BoardEnrolment) → At w.enrolments j x → At w.enrolments k y → x.enrolment.id ≡ y.enrolment.id → j ≡ k
   -- no id stands twice in the table

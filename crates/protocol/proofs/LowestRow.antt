@@ -1,4 +1,5 @@
 -- At both ends, the lowest row that applies is given, and none otherwise.
+use Rattle.std.specs.Prelude.{Ok}
 use Prim.Native.Nat.{ℕ}
 use mathlib.Core.List.{List}
 use mathlib.Core.Bool.{true}
@@ -7,13 +8,12 @@ use mathlib.Core.Path.{◌≡◌, refl, sym, ◌∙◌, ap, subst}
 use lib.Dec.{eqb}
 use Rattle.message.specs.Read.{reading_of}
 use Rattle.grammar.specs.declared.Message.{Message}
-use Rattle.message.specs.declared.Reading.TheVariants as read
 use Rattle.protocol.specs.declared.RegistrarInput.{RegistrarInput}
 use Rattle.protocol.specs.declared.EndEntityInput.{EndEntityInput}
 use Rattle.protocol.specs.declared.Transaction.{Transaction}
 use Rattle.protocol.specs.declared.TransactionTable.{TransactionTable}
 use Rattle.protocol.specs.declared.Enrolment.{Enrolment}
-use Rattle.protocol.specs.declared.FailureInfo.{FailureInfo}
+use Rattle.protocol.specs.Types.{FailureInfo}
 use Rattle.protocol.specs.declared.Outcome.{Outcome}
 use Rattle.protocol.specs.declared.RegistrarAnswer.{RegistrarAnswer}
 use Rattle.protocol.specs.declared.EndEntityAnswer.{EndEntityAnswer}
@@ -82,7 +82,7 @@ module _ (t : TransactionTable) (d : RegistrarInput) (m : Fields) where
 
 -- a message that reads: the rows are those of its fields
 pub registrar_lowest :
-    (t : TransactionTable) (d : RegistrarInput) (bytes : List ℕ) (m : Message) → reading_of bytes ≡ read.Clean m →
+    (t : TransactionTable) (d : RegistrarInput) (bytes : List ℕ) (m : Message) → reading_of bytes ≡ Ok m →
     LowestGiven (registrar_rows t.transactions (lookup t.transactions (as_id (fields_of bytes m).id)) d.verdict (fields_of bytes m)) (registrar_message t d bytes).outcome
 registrar_lowest t d bytes m e = subst (λ (a : RegistrarAnswer). LowestGiven (registrar_rows t.transactions (lookup t.transactions (as_id (fields_of bytes m).id)) d.verdict (fields_of bytes m)) a.outcome) (sym (message-at t d bytes m e)) (lowest_fields t d (fields_of bytes m))
 
@@ -109,6 +109,6 @@ module _ (x : Enrolment) (d : EndEntityInput) (m : Fields) where
   unfolding end_entity_rows
   lowest-end = lowest-given _ _ refl follows_end
 
-pub end_entity_lowest : (x : Enrolment) (d : EndEntityInput) (bytes : List ℕ) (m : Message) → reading_of bytes ≡ read.Clean m → LowestGiven (end_entity_rows x d.good (fields_of bytes m)) (end_entity_message x d bytes).outcome
+pub end_entity_lowest : (x : Enrolment) (d : EndEntityInput) (bytes : List ℕ) (m : Message) → reading_of bytes ≡ Ok m → LowestGiven (end_entity_rows x d.good (fields_of bytes m)) (end_entity_message x d bytes).outcome
 unfolding end_entity_message end_entity_read
 end_entity_lowest x d bytes m e = rw e (lowest-end x d (fields_of bytes m))

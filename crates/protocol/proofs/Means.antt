@@ -1,4 +1,5 @@
 -- What a refusal means, at both ends: from the test of its row to the number that is given.
+use Rattle.std.specs.Prelude.{Ok}
 use Prim.Native.Nat.{ℕ, ◌≤◌}
 use mathlib.Core.List.{List, [], ◌∷◌}
 use mathlib.Core.Bool.{Bool, true, false, not, cond, ◌&&◌}
@@ -9,13 +10,12 @@ use native.Mathlib.Omega.{arith}
 use lib.Dec.{eqb}
 use Rattle.message.specs.Read.{reading_of}
 use Rattle.grammar.specs.declared.Message.{Message}
-use Rattle.message.specs.declared.Reading.TheVariants as read
 use Rattle.protocol.specs.declared.RegistrarInput.{RegistrarInput}
 use Rattle.protocol.specs.declared.EndEntityInput.{EndEntityInput}
 use Rattle.protocol.specs.declared.Transaction.{Transaction}
 use Rattle.protocol.specs.declared.TransactionTable.{TransactionTable}
 use Rattle.protocol.specs.declared.Enrolment.{Enrolment}
-use Rattle.protocol.specs.declared.FailureInfo.{FailureInfo}
+use Rattle.protocol.specs.Types.{FailureInfo}
 use Rattle.protocol.specs.declared.Outcome.{Outcome}
 use Rattle.protocol.specs.declared.RegistrarAnswer.{RegistrarAnswer}
 use Rattle.protocol.specs.declared.EndEntityAnswer.{EndEntityAnswer}
@@ -112,7 +112,7 @@ module _ (n : ℕ) (t : TransactionTable) (d : RegistrarInput) (f : Fields) wher
       (λ r _ _ _. cases (λ (a : RegistrarAnswer). a.outcome ≡ outcome.Refused n b → b ≡ bit_of n (confirmed_at g)) (is_granted r.state) _ _ (λ _ z. done_refused n b z) (λ _ z. again-refused n b z))
 
 pub registrar_means :
-    (n : ℕ) (t : TransactionTable) (d : RegistrarInput) (bytes : List ℕ) (m : Message) → reading_of bytes ≡ read.Clean m →
+    (n : ℕ) (t : TransactionTable) (d : RegistrarInput) (bytes : List ℕ) (m : Message) → reading_of bytes ≡ Ok m →
     (This : Type 0) (b : FailureInfo) → ((c : Bool) → bit_of n c ≡ b)
     → (let rows : List Row = registrar_rows t.transactions (lookup t.transactions (as_id (fields_of bytes m).id)) d.verdict (fields_of bytes m) in
     once n rows ≡ true
@@ -136,7 +136,7 @@ module _ (n : ℕ) (x : Enrolment) (d : EndEntityInput) (f : Fields) where
       (λ _. cases (λ (a : EndEntityAnswer). a.outcome ≡ outcome.Refused n b → b ≡ bit_of n false) (eqb (status_or0 f.status) 2) _ _ (λ _ z. done_refused n b z) (λ _ z. done_refused n b z))
 
 pub end_entity_means :
-    (n : ℕ) (x : Enrolment) (d : EndEntityInput) (bytes : List ℕ) (m : Message) → reading_of bytes ≡ read.Clean m →
+    (n : ℕ) (x : Enrolment) (d : EndEntityInput) (bytes : List ℕ) (m : Message) → reading_of bytes ≡ Ok m →
     (This : Type 0) (b : FailureInfo) → bit_of n false ≡ b
     → (let rows : List Row = end_entity_rows x d.good (fields_of bytes m) in
     once n rows ≡ true

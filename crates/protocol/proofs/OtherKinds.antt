@@ -1,4 +1,5 @@
 -- At the registrar a message of another kind than those it takes is refused, by 8 where no row before it applies.
+use Rattle.std.specs.Prelude.{Ok}
 use Prim.Native.Nat.{ℕ}
 use mathlib.Core.List.{List}
 use mathlib.Core.Bool.{Bool, true, false, not, ◌||◌}
@@ -6,7 +7,6 @@ use mathlib.Core.Option.{Option}
 use mathlib.Core.Path.{◌≡◌, refl}
 use mathlib.Core.Logic.{◌⊎◌, inl, inr}
 use Rattle.message.specs.Read.{reading_of}
-use Rattle.message.specs.declared.Reading.TheVariants as read
 use Rattle.grammar.specs.declared.Message.{Message}
 use Rattle.protocol.specs.declared.RegistrarInput.{RegistrarInput}
 use Rattle.protocol.specs.declared.Transaction.{Transaction}
@@ -67,11 +67,11 @@ module _ (t : TransactionTable) (d : RegistrarInput) (m : Fields) (k : OtherKind
     refused_8 = rw (lowest_8 (lookup t.transactions (as_id m.id)))
 
 -- a message that reads
-pub other_kinds : (t : TransactionTable) (d : RegistrarInput) (bytes : List ℕ) (m : Message) → reading_of bytes ≡ read.Clean m → OtherKind (fields_of bytes m).kind → IsRefused (registrar_message t d bytes).outcome
+pub other_kinds : (t : TransactionTable) (d : RegistrarInput) (bytes : List ℕ) (m : Message) → reading_of bytes ≡ Ok m → OtherKind (fields_of bytes m).kind → IsRefused (registrar_message t d bytes).outcome
 unfolding registrar_fields
 other_kinds t d bytes m e k = rw (message-at t d bytes m e) (refused_by t d (fields_of bytes m) k (lookup t.transactions (as_id (fields_of bytes m).id)) (lowest_row (registrar_rows t.transactions (lookup t.transactions (as_id (fields_of bytes m).id)) d.verdict (fields_of bytes m))) refl)
 
-pub other_kinds_by_8 : (t : TransactionTable) (d : RegistrarInput) (bytes : List ℕ) (m : Message) → reading_of bytes ≡ read.Clean m
+pub other_kinds_by_8 : (t : TransactionTable) (d : RegistrarInput) (bytes : List ℕ) (m : Message) → reading_of bytes ≡ Ok m
     → OtherKind (fields_of bytes m).kind
     → NotBefore8 d.verdict (fields_of bytes m)
     → registrar_message t d bytes ≡ refused_by8 t (as_id (fields_of bytes m).id) d.nonce (as_nonce (fields_of bytes m).sender_nonce)

@@ -16,7 +16,7 @@ use Rattle.protocol.specs.declared.Outgoing.{Outgoing}
 use Rattle.protocol.specs.Message.{pki_conf, cert_conf}
 use Rattle.protocol.specs.Table.{lookup}
 use Rattle.protocol.specs.Run.{End, TheRegistrar, OneBoard, NoEnd, Event, Call, World, BoardEnrolment}
-use Rattle.protocol.specs.Agreement.{Issued, ClosedSince, Some, RegistrarHolds, SaysConfirmed}
+use Rattle.protocol.specs.Agreement.{Issued, ClosedSince, SomeEvent, RegistrarHolds, SaysConfirmed}
 use Rattle.protocol.proofs.Tests.{none_some}
 use Rattle.protocol.proofs.RegistrarStates.{settled-sent, confirmed_0}
 use Rattle.protocol.proofs.EnrolmentStates.{stands_for}
@@ -95,7 +95,7 @@ module _ (w : World) (c : Call) (o : Option Outgoing) (cl : Option TransactionId
   responded r (inl (q, h, s)) = record { message = q; issued = inl (refl, h); sender = s }
   responded r (inr t) = nonce-more e t
 
-  said : (i : TransactionId) → Some (λ f. SaysConfirmed f.table i) (e ∷ w.past) → Accepted (e ∷ w.past) i
+  said : (i : TransactionId) → SomeEvent (λ f. SaysConfirmed f.table i) (e ∷ w.past) → Accepted (e ∷ w.past) i
   said i (inl (r, h, t)) = accepted_by e (d.settled i r 0 (holds-found b' i r d.unique h) (confirmed_0 r.state t))
   said i (inr h) = accepted-more e (v.said i h)
 
@@ -124,7 +124,7 @@ module _ (w : World) (v : Inv w) (e : Event) where
   acknowledges_still p (n, inl h) = (acknowledged_more e n, inl (inr h))
   acknowledges_still p (n, inr s) = (acknowledged_more e n, inr s)
 
-  said_still : e.table ≡ w.table → (i : TransactionId) → Some (λ f. SaysConfirmed f.table i) (e ∷ w.past) → Accepted (e ∷ w.past) i
+  said_still : e.table ≡ w.table → (i : TransactionId) → SomeEvent (λ f. SaysConfirmed f.table i) (e ∷ w.past) → Accepted (e ∷ w.past) i
   said_still q i (inl (r, h, t)) = accepted_by e (v.settled i r 0 (holds-found w.table i r v.unique (subst (λ (b : TransactionTable). RegistrarHolds b i r) q h)) (confirmed_0 r.state t))
   said_still q i (inr h) = accepted-more e (v.said i h)
 
@@ -164,7 +164,7 @@ module _
     (dr : Option TransactionId)
     (l' : List BoardEnrolment)
     (v : Inv w)
-    (fresh : (i : TransactionId) → dr ≡ some i → Some (λ f. f.drawn ≡ some i) w.past → ⊥)
+    (fresh : (i : TransactionId) → dr ≡ some i → SomeEvent (λ f. f.drawn ≡ some i) w.past → ⊥)
     (d : EndEntityStep w.past w.enrolments l' b o dr)
   where
     abbrev e₂ : Event
@@ -195,8 +195,8 @@ module _
         record { message = g.1; issued = inl (ap OneBoard (sym g.0), g.2); kind = g.3; id = g.4; sender = g.5; hash = g.6; status = g.7 }
     sent-cases y s (inr t) = sent-more e₂ t
 
-    drawn-cases : (k : ℕ) (y : BoardEnrolment) → ((x : BoardEnrolment) × At w.enrolments k x × (x.enrolment.id ≡ y.enrolment.id)) ⊎ ((dr ≡ some y.enrolment.id) × (k ≡ length w.enrolments)) → Some (λ f. f.drawn ≡ some y.enrolment.id) (e₂ ∷ w.past)
-    drawn-cases k y (inl (x, h, p)) = inr (subst (λ (i : TransactionId). Some (λ f. f.drawn ≡ some i) w.past) p (v.drawn k x h))
+    drawn-cases : (k : ℕ) (y : BoardEnrolment) → ((x : BoardEnrolment) × At w.enrolments k x × (x.enrolment.id ≡ y.enrolment.id)) ⊎ ((dr ≡ some y.enrolment.id) × (k ≡ length w.enrolments)) → SomeEvent (λ f. f.drawn ≡ some y.enrolment.id) (e₂ ∷ w.past)
+    drawn-cases k y (inl (x, h, p)) = inr (subst (λ (i : TransactionId). SomeEvent (λ f. f.drawn ≡ some i) w.past) p (v.drawn k x h))
     drawn-cases k y (inr g) = inl g.0
 
     distinct_cases : (j k : ℕ) (x y : BoardEnrolment) → x.enrolment.id ≡ y.enrolment.id

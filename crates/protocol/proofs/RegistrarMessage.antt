@@ -1,4 +1,5 @@
 -- A message at the registrar shows a RegistrarStep.
+use Rattle.std.specs.Prelude.{Ok, Err, Some, None}
 use Prim.Native.Nat.{ℕ}
 use mathlib.Core.List.{List}
 use mathlib.Core.Bool.{Bool, true, false, cond}
@@ -9,18 +10,16 @@ use native.Mathlib.Omega.{arith}
 use lib.Dec.{leb}
 use Rattle.message.specs.Read.{reading_of}
 use Rattle.grammar.specs.declared.Message.{Message}
-use Rattle.message.specs.declared.Reading.{Reading}
-use Rattle.message.specs.declared.Reading.TheVariants as read
+use Rattle.message.specs.Types.{Reading}
 use Rattle.protocol.specs.declared.Board.{Board}
 use Rattle.protocol.specs.declared.TransactionId.{TransactionId}
 use Rattle.protocol.specs.declared.Nonce.{Nonce}
 use Rattle.protocol.specs.declared.FreshNonce.{FreshNonce}
-use Rattle.protocol.specs.declared.Verdict.{Verdict}
+use Rattle.protocol.specs.Types.{Verdict}
 use Rattle.protocol.specs.declared.RegistrarInput.{RegistrarInput}
 use Rattle.protocol.specs.declared.Transaction.{Transaction}
-use Rattle.protocol.specs.declared.FailureInfo.{FailureInfo}
+use Rattle.protocol.specs.Types.{FailureInfo}
 use Rattle.protocol.specs.declared.Outgoing.{Outgoing}
-use Rattle.protocol.specs.declared.Verdict.TheVariants.{Bad, Good}
 use Rattle.protocol.specs.Bytes.{as_id, as_nonce}
 use Rattle.protocol.specs.Message.{Fields, cert_conf, status_or0, fields_of}
 use Rattle.protocol.specs.Outgoing.{pki_conf_out, error_out, silent}
@@ -56,37 +55,37 @@ pub record Confirms (past : List Event) (r : Transaction) (m : Fields) (o : Outg
 
 -- the premise, by the verdict and the reading
 abbrev ByReading : Verdict → List ℕ → Reading → List Event → Type 0
-ByReading Bad bytes r past = Unit {0}
-ByReading (Good b) bytes r past = IssuedReading (OneBoard b) bytes r past
+ByReading None bytes r past = Unit {0}
+ByReading (Some b) bytes r past = IssuedReading (OneBoard b) bytes r past
 
 by_reading : (vd : Verdict) (bytes : List ℕ) (past : List Event) → ByVerdict vd bytes past → ByReading vd bytes (reading_of bytes) past
-by_reading Bad bytes past q = tt
-by_reading (Good b) bytes past q = q
+by_reading None bytes past q = tt
+by_reading (Some b) bytes past q = q
 
 module _ (w : World) (v : Inv w) (bytes : List ℕ) (m : Message) where
   abbrev f : Fields
   f = fields_of bytes m
 
-  confirms_by : (r : Transaction) (a : Board) → lowest_row (registrar_rows (recs w v) (some r) (Good a) f) ≡ pass → confirms f ≡ true → (o : Outgoing) → Issued (OneBoard a) o w.past → Carries bytes m o → Confirms w.past r f o
+  confirms_by : (r : Transaction) (a : Board) → lowest_row (registrar_rows (recs w v) (some r) (Some a) f) ≡ pass → confirms f ≡ true → (o : Outgoing) → Issued (OneBoard a) o w.past → Carries bytes m o → Confirms w.past r f o
   confirms_by r a e conf o q c =
-      let k : o.kind ≡ cert_conf = sym (kind_read bytes m o c) ∙ kind-is (recs w v) r (Good a) f e conf in
-      let b : a ≡ r.board = board_eq a r.board (eqb_eq a.0 r.board.0 (names_it (recs w v) r (Good a) f e conf)) in
-      let one : f.entries ≡ 1 = eqb_eq f.entries 1 (one_it (recs w v) r (Good a) f e conf) in
+      let k : o.kind ≡ cert_conf = sym (kind_read bytes m o c) ∙ kind-is (recs w v) r (Some a) f e conf in
+      let b : a ≡ r.board = board_eq a r.board (eqb_eq a.0 r.board.0 (names_it (recs w v) r (Some a) f e conf)) in
+      let one : f.entries ≡ 1 = eqb_eq f.entries 1 (one_it (recs w v) r (Some a) f e conf) in
       record {
         issued = subst (λ (y : Board). Issued (OneBoard y) o w.past) b q;
         kind = k;
         id = sym (ap as_id (id_read bytes m o c));
         sender = sym (ap as_nonce (sender_read bytes m o c));
-        recip = recip_read bytes m o c r.sent (v.stands a o q k).answers (recip_it (recs w v) r (Good a) f e conf);
-        hash = hash_read bytes m o c (kind-is (recs w v) r (Good a) f e conf) one ∙ hash_it (recs w v) r (Good a) f e conf;
+        recip = recip_read bytes m o c r.sent (v.stands a o q k).answers (recip_it (recs w v) r (Some a) f e conf);
+        hash = hash_read bytes m o c (kind-is (recs w v) r (Some a) f e conf) one ∙ hash_it (recs w v) r (Some a) f e conf;
         status = status_read bytes m o c (v.stands a o q k).rated one;
-        known = known_it (recs w v) r (Good a) f e conf;
-        takes = takes_it (recs w v) r (Good a) f e conf;
+        known = known_it (recs w v) r (Some a) f e conf;
+        takes = takes_it (recs w v) r (Some a) f e conf;
       }
 
-  confirms_with : (r : Transaction) (vd : Verdict) → lowest_row (registrar_rows (recs w v) (some r) vd f) ≡ pass → confirms f ≡ true → ByReading vd bytes (read.Clean m) w.past → (o : Outgoing) × Confirms w.past r f o
-  confirms_with r Bad e conf q = true_false (sym (names_it (recs w v) r Bad f e conf))
-  confirms_with r (Good a) e conf (o, q, c) = (o, confirms_by r a e conf o q c)
+  confirms_with : (r : Transaction) (vd : Verdict) → lowest_row (registrar_rows (recs w v) (some r) vd f) ≡ pass → confirms f ≡ true → ByReading vd bytes (Ok m) w.past → (o : Outgoing) × Confirms w.past r f o
+  confirms_with r None e conf q = true_false (sym (names_it (recs w v) r None f e conf))
+  confirms_with r (Some a) e conf (o, q, c) = (o, confirms_by r a e conf o q c)
 
 module _ (w : World) (v : Inv w) (m : Fields) (n : FreshNonce) where
   abbrev i : TransactionId
@@ -200,7 +199,7 @@ module _ (w : World) (v : Inv w) (bytes : List ℕ) (m : Message) (d : Registrar
   error_quiet true i n a b p e k = let z : ◌≡◌ {A = ℕ} 23 19 = ap (λ (y : Outgoing). y.kind) (some_some e) ∙ k in omega arith
   error_quiet false i n a b p e k = none_some e
 
-  checked : ByReading d.verdict bytes (read.Clean m) w.past → (g : Option Transaction) → lookup (recs w v) (as_id fields.id) ≡ g → (k : LowestRow) → lowest_row (registrar_rows (recs w v) g d.verdict fields) ≡ k → StepOf w v (open_still w v) (registrar_checked k g w.table d fields)
+  checked : ByReading d.verdict bytes (Ok m) w.past → (g : Option Transaction) → lookup (recs w v) (as_id fields.id) ≡ g → (k : LowestRow) → lowest_row (registrar_rows (recs w v) g d.verdict fields) ≡ k → StepOf w v (open_still w v) (registrar_checked k g w.table d fields)
   unfolding registrar_checked
   checked q g h (stop k) e = registrar_idle w v (sent_by (leb 6 k) _) (error_quiet (leb 6 k) _ _ _ _)
   checked q g h pass e =
@@ -212,8 +211,8 @@ module _ (w : World) (v : Inv w) (bytes : List ℕ) (m : Message) (d : Registrar
 
 read_step : (w : World) (v : Inv w) (bytes : List ℕ) (d : RegistrarInput) (r : Reading) → ByReading d.verdict bytes r w.past → StepOf w v (open_still w v) (registrar_read r w.table d bytes)
 unfolding registrar_read registrar_fields
-read_step w v bytes d (read.Refused f) q = registrar_idle w v none quiet_none
-read_step w v bytes d (read.Clean m) q =
+read_step w v bytes d (Err f) q = registrar_idle w v none quiet_none
+read_step w v bytes d (Ok m) q =
     checked w v bytes m d q (lookup (recs w v) (as_id (fields_of bytes m).id)) refl (lowest_row (registrar_rows (recs w v) (lookup (recs w v) (as_id (fields_of bytes m).id)) d.verdict (fields_of bytes m))) refl
 
 pub message-step : (w : World) (v : Inv w) (bytes : List ℕ) (d : RegistrarInput) → SenderIssued (ToRegistrar bytes d) w.past → StepOf w v (open_still w v) (registrar_message w.table d bytes)

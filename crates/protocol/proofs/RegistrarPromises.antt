@@ -1,4 +1,5 @@
 -- Every call of the registrar keeps demand 1's promise, on any table.
+use Rattle.std.specs.Prelude.{Ok, Err}
 use Prim.Native.Nat.{ℕ}
 use mathlib.Core.List.{List}
 use mathlib.Core.Bool.{Bool, true, false, cond}
@@ -9,8 +10,7 @@ use native.Mathlib.Omega.{arith}
 use lib.Dec.{eqb}
 use Rattle.message.specs.declared.ReadFault.{ReadFault}
 use Rattle.message.specs.Read.{reading_of}
-use Rattle.message.specs.declared.Reading.{Reading}
-use Rattle.message.specs.declared.Reading.TheVariants as read
+use Rattle.message.specs.Types.{Reading}
 use Rattle.protocol.specs.declared.TransactionId.{TransactionId}
 use Rattle.protocol.specs.declared.Nonce.{Nonce}
 use Rattle.protocol.specs.declared.FreshNonce.{FreshNonce}
@@ -18,7 +18,7 @@ use Rattle.protocol.specs.declared.Hash.{Hash}
 use Rattle.protocol.specs.declared.RegistrarInput.{RegistrarInput}
 use Rattle.protocol.specs.declared.Transaction.{Transaction}
 use Rattle.protocol.specs.declared.TransactionTable.{TransactionTable}
-use Rattle.protocol.specs.declared.FailureInfo.{FailureInfo}
+use Rattle.protocol.specs.Types.{FailureInfo}
 use Rattle.protocol.specs.declared.Outgoing.{Outgoing}
 use Rattle.protocol.specs.declared.RegistrarAnswer.{RegistrarAnswer}
 use Rattle.protocol.specs.declared.Outcome.TheVariants as outcome
@@ -185,8 +185,8 @@ module _ (t : TransactionTable) (d : RegistrarInput) where
 
   read_promise : (bytes : List ℕ) (r : Reading) → Kept (registrar_read r t d bytes)
   unfolding registrar_read registrar_fields
-  read_promise bytes (read.Refused f) = refusing registrar_numbers t (read_refusal f) _ _ _ _ (read_number_lem (eqb f.number 1))
-  read_promise bytes (read.Clean m) = checked_promise (fields_of bytes m) (lookup t.transactions (as_id (fields_of bytes m).id)) refl (lowest_row (registrar_rows t.transactions (lookup t.transactions (as_id (fields_of bytes m).id)) d.verdict (fields_of bytes m))) refl
+  read_promise bytes (Err f) = refusing registrar_numbers t (read_refusal f) _ _ _ _ (read_number_lem (eqb f.number 1))
+  read_promise bytes (Ok m) = checked_promise (fields_of bytes m) (lookup t.transactions (as_id (fields_of bytes m).id)) refl (lowest_row (registrar_rows t.transactions (lookup t.transactions (as_id (fields_of bytes m).id)) d.verdict (fields_of bytes m))) refl
 
   pub message-promise : (bytes : List ℕ) → Kept (registrar_message t d bytes)
   unfolding registrar_message

@@ -1,4 +1,5 @@
 -- Refusal 16 is given only where the request number is not the record's, and there unless a lower row applies, at both ends.
+use Rattle.std.specs.Prelude.{Ok, Some}
 use Prim.Native.Nat.{ℕ, ◌≤◌}
 use mathlib.Core.List.{List}
 use mathlib.Core.Bool.{Bool, true, false, not, cond, ◌&&◌, ◌||◌}
@@ -9,13 +10,11 @@ use native.Mathlib.Omega.{arith}
 use lib.Dec.{eqb}
 use Rattle.message.specs.Read.{reading_of}
 use Rattle.grammar.specs.declared.Message.{Message}
-use Rattle.message.specs.declared.Reading.TheVariants as read
 use Rattle.protocol.specs.declared.RegistrarInput.{RegistrarInput}
 use Rattle.protocol.specs.declared.EndEntityInput.{EndEntityInput}
 use Rattle.protocol.specs.declared.Transaction.{Transaction}
 use Rattle.protocol.specs.declared.TransactionTable.{TransactionTable}
 use Rattle.protocol.specs.declared.Enrolment.{Enrolment}
-use Rattle.protocol.specs.declared.FailureInfo.TheVariants.{Bit}
 use Rattle.protocol.specs.Bytes.{as_id}
 use Rattle.protocol.specs.Message.{Fields, fields_of, request_number, is_response}
 use Rattle.protocol.specs.Table.{lookup, free_transaction}
@@ -30,7 +29,7 @@ use Rattle.der.proofs.Auto.{and_left, and_right, or_cases}
 use Rattle.protocol.proofs.Tests.{true_false, eqb_eq, same_number_lem, both, one_of, other_than, number_is, is_number}
 use Rattle.protocol.proofs.Means.{at-applies, registrar_means, end_entity_means}
 
-bit_16 : (c : Bool) → bit_of 16 c ≡ Bit 2
+bit_16 : (c : Bool) → bit_of 16 c ≡ Some 2
 unfolding bit_of
 bit_16 true = refl
 bit_16 false = refl
@@ -126,11 +125,11 @@ module _ (t : TransactionTable) (d : RegistrarInput) (bytes : List ℕ) (m : Mes
       let z : h ≡ some r = sym q ∙ l in
       asks_24 _ f.kind f.entries f.request k ∙ both (eqb f.entries 1) _ (same_number_lem f.entries 1 one) (ap (λ (x : Option Transaction). not (eqb f.request (request_number (get_or x free_transaction).kind))) z ∙ other_than_asked r.kind f.request w)
 
-pub registrar_means_16 : (t : TransactionTable) (d : RegistrarInput) (bytes : List ℕ) (m : Message) → reading_of bytes ≡ read.Clean m
-    → Means 16 (Bit 2) (OtherAtRegistrar t (as_id (fields_of bytes m).id) m) (registrar_rows t.transactions (lookup t.transactions (as_id (fields_of bytes m).id)) d.verdict (fields_of bytes m)) (registrar_message t d bytes).outcome
+pub registrar_means_16 : (t : TransactionTable) (d : RegistrarInput) (bytes : List ℕ) (m : Message) → reading_of bytes ≡ Ok m
+    → Means 16 (Some 2) (OtherAtRegistrar t (as_id (fields_of bytes m).id) m) (registrar_rows t.transactions (lookup t.transactions (as_id (fields_of bytes m).id)) d.verdict (fields_of bytes m)) (registrar_message t d bytes).outcome
 unfolding registrar_rows
 registrar_means_16 t d bytes m e =
-    registrar_means 16 t d bytes m e _ (Bit 2) bit_16 refl
+    registrar_means 16 t d bytes m e _ (Some 2) bit_16 refl
     (λ a h. registrar_to t d bytes m _ refl a (λ u. let z : 16 ≤ 12 = h 12 (at-applies 12 (table t d bytes m (g t d bytes m)) u) in omega arith))
     (λ w. registrar_from t d bytes m _ refl w)
 
@@ -158,10 +157,10 @@ module _ (x : Enrolment) (d : EndEntityInput) (bytes : List ℕ) (m : Message) w
       a_response k (inr (inl p)) = rw p
       a_response k (inr (inr p)) = rw p
 
-pub end_entity_means_16 : (x : Enrolment) (d : EndEntityInput) (bytes : List ℕ) (m : Message) → reading_of bytes ≡ read.Clean m
-    → Means 16 (Bit 2) (OtherAtEndEntity x m) (end_entity_rows x d.good (fields_of bytes m)) (end_entity_message x d bytes).outcome
+pub end_entity_means_16 : (x : Enrolment) (d : EndEntityInput) (bytes : List ℕ) (m : Message) → reading_of bytes ≡ Ok m
+    → Means 16 (Some 2) (OtherAtEndEntity x m) (end_entity_rows x d.good (fields_of bytes m)) (end_entity_message x d bytes).outcome
 unfolding end_entity_rows
 end_entity_means_16 x d bytes m e =
-    end_entity_means 16 x d bytes m e _ (Bit 2) (bit_16 false) refl
+    end_entity_means 16 x d bytes m e _ (Some 2) (bit_16 false) refl
     (λ a h. end_entity_to x d bytes m a)
     (λ w. end_entity_from x d bytes m w)

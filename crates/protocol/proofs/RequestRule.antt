@@ -1,4 +1,5 @@
 -- A request opens a transaction exactly when no row applies, in 01's words, and in the lowest free slot.
+use Rattle.std.specs.Prelude.{Ok, Some, None}
 use Prim.Native.Nat.{ℕ}
 use mathlib.Core.List.{List}
 use mathlib.Core.Bool.{Bool, true, false, not, cond, ◌&&◌, ◌||◌}
@@ -9,16 +10,14 @@ use native.Mathlib.Decide.{ℕ_discrete}
 use lib.ListN.{get_elem?}
 use lib.Dec.{eqb}
 use Rattle.message.specs.Read.{reading_of}
-use Rattle.message.specs.declared.Reading.TheVariants as read
 use Rattle.grammar.specs.declared.Span.{Span}
 use Rattle.grammar.specs.declared.Message.{Message}
 use Rattle.protocol.specs.declared.Board.{Board}
-use Rattle.protocol.specs.declared.Verdict.{Verdict}
+use Rattle.protocol.specs.Types.{Verdict}
 use Rattle.protocol.specs.declared.RegistrarInput.{RegistrarInput}
 use Rattle.protocol.specs.declared.Transaction.{Transaction}
 use Rattle.protocol.specs.declared.TransactionTable.{TransactionTable}
 use Rattle.protocol.specs.declared.RegistrarAnswer.{RegistrarAnswer}
-use Rattle.protocol.specs.declared.Verdict.TheVariants.{Bad, Good}
 use Rattle.protocol.specs.declared.TransactionState.TheVariants as at_registrar
 use Rattle.protocol.specs.declared.Outcome.TheVariants as outcome
 use Rattle.protocol.specs.Bytes.{present, as_id, as_nonce, no_nonce, no_hash}
@@ -41,9 +40,9 @@ use Rattle.protocol.proofs.ConfirmationMoves.{sixteen, present-part, message-at,
 use Rattle.protocol.proofs.Slots.{put_only}
 use Rattle.protocol.proofs.FreeSlots.{room-free, free-room, put_there, was_free_lem, lowest-free}
 
-good-names : (v : Verdict) → is_good v ≡ true → (b : Board) × (v ≡ Good b)
-good-names Bad e = true_false (sym e)
-good-names (Good b) e = (b, refl)
+good-names : (v : Verdict) → is_good v ≡ true → (b : Board) × (v ≡ Some b)
+good-names None e = true_false (sym e)
+good-names (Some b) e = (b, refl)
 
 absent_test : (bytes : List ℕ) (s : Span) → present (optional_part bytes s) ≡ false → s.start.0 ≡ 0
 absent_test bytes s e = go (eqb s.start.0 0) refl e
@@ -82,7 +81,7 @@ module _ (t : TransactionTable) (d : RegistrarInput) (bytes : List ℕ) (m : Mes
 
   -- ## Only if
 
-  module _ (reads : reading_of bytes ≡ read.Clean m) (kind : IsRequest m.body.kind) (h : lookup rs (as_id f.id) ≡ none) (e : lowest_row (registrar_rows rs none d.verdict f) ≡ pass) where
+  module _ (reads : reading_of bytes ≡ Ok m) (kind : IsRequest m.body.kind) (h : lookup rs (as_id f.id) ≡ none) (e : lowest_row (registrar_rows rs none d.verdict f) ≡ pass) where
     abbrev rows : List Row
     rows = registrar_rows rs none d.verdict f
 
@@ -117,7 +116,7 @@ module _ (t : TransactionTable) (d : RegistrarInput) (bytes : List ℕ) (m : Mes
         }
 
   opens_by :
-      reading_of bytes ≡ read.Clean m → IsRequest m.body.kind → (g : Option Transaction) → lookup rs (as_id f.id) ≡ g →
+      reading_of bytes ≡ Ok m → IsRequest m.body.kind → (g : Option Transaction) → lookup rs (as_id f.id) ≡ g →
       (c : LowestRow) → lowest_row (registrar_rows rs g d.verdict f) ≡ c → (registrar_checked c g t d f).outcome ≡ outcome.Done →
       (b : Board) × Opening t d bytes m b
   unfolding registrar_checked fields_of
@@ -126,7 +125,7 @@ module _ (t : TransactionTable) (d : RegistrarInput) (bytes : List ℕ) (m : Mes
       taken_by t d f (λ (a : RegistrarAnswer). a.outcome ≡ outcome.Done → (b : Board) × Opening t d bytes m b) g e (λ o n p _. (_, opening reads kind (h ∙ n) p))
       (λ r c n p _. true_false (sym c ∙ request_other m.body.kind kind))
 
-  opens-only : reading_of bytes ≡ read.Clean m → IsRequest m.body.kind → (registrar_message t d bytes).outcome ≡ outcome.Done → (b : Board) × Opening t d bytes m b
+  opens-only : reading_of bytes ≡ Ok m → IsRequest m.body.kind → (registrar_message t d bytes).outcome ≡ outcome.Done → (b : Board) × Opening t d bytes m b
   opens-only reads kind q =
       let g : Option Transaction = lookup rs (as_id f.id) in
       let c : LowestRow = lowest_row (registrar_rows rs g d.verdict f) in

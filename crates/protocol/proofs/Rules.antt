@@ -1,4 +1,5 @@
 -- The host steps, the error messages and the corners of the table are as 01 says.
+use Rattle.std.specs.Prelude.{Ok, Err}
 use Prim.Native.Nat.{ℕ, ◌<◌, ◌≤◌}
 use mathlib.Core.List.{List}
 use mathlib.Core.Bool.{Bool, true, false, not, cond, ◌&&◌}
@@ -7,7 +8,6 @@ use mathlib.Core.Path.{◌≡◌, refl, sym, ◌∙◌, ap, subst}
 use native.Mathlib.Omega.{arith}
 use lib.Dec.{leb, leb→le, le→leb}
 use Rattle.message.specs.Read.{reading_of}
-use Rattle.message.specs.declared.Reading.TheVariants as read
 use Rattle.grammar.specs.declared.Message.{Message}
 use Rattle.message.specs.declared.ReadFault.{ReadFault}
 use Rattle.protocol.specs.declared.TransactionId.{TransactionId}
@@ -19,7 +19,7 @@ use Rattle.protocol.specs.declared.TransactionState.{TransactionState}
 use Rattle.protocol.specs.declared.Transaction.{Transaction}
 use Rattle.protocol.specs.declared.TransactionTable.{TransactionTable}
 use Rattle.protocol.specs.declared.Enrolment.{Enrolment}
-use Rattle.protocol.specs.declared.FailureInfo.{FailureInfo}
+use Rattle.protocol.specs.Types.{FailureInfo}
 use Rattle.protocol.specs.declared.Outgoing.{Outgoing}
 use Rattle.protocol.specs.declared.RegistrarAnswer.{RegistrarAnswer}
 use Rattle.protocol.specs.declared.TransactionState.TheVariants as at_registrar
@@ -109,12 +109,12 @@ module _ (t : TransactionTable) (d : RegistrarInput) (m : Fields) where
       (λ r _ _ _. cases Rule (is_granted r.state) _ _ (λ _. not_refused _ _ _ _) (λ _. record { from6 = λ k b e. again-refused k b e; below6 = λ k b e. again-refused k b e }))
 
 -- a message that reads
-pub error_rule : (t : TransactionTable) (d : RegistrarInput) (bytes : List ℕ) (m : Message) → reading_of bytes ≡ read.Clean m → ErrorRule (as_id (fields_of bytes m).id) d.nonce (as_nonce (fields_of bytes m).sender_nonce) (registrar_message t d bytes)
+pub error_rule : (t : TransactionTable) (d : RegistrarInput) (bytes : List ℕ) (m : Message) → reading_of bytes ≡ Ok m → ErrorRule (as_id (fields_of bytes m).id) d.nonce (as_nonce (fields_of bytes m).sender_nonce) (registrar_message t d bytes)
 unfolding registrar_fields
 error_rule t d bytes m e = rw (message-at t d bytes m e) (error_checked t d (fields_of bytes m) (lookup t.transactions (as_id (fields_of bytes m).id)) (lowest_row (registrar_rows t.transactions (lookup t.transactions (as_id (fields_of bytes m).id)) d.verdict (fields_of bytes m))) refl)
 
 -- one that does not read sends nothing
-pub unread_silent : (t : TransactionTable) (d : RegistrarInput) (bytes : List ℕ) (f : ReadFault) → reading_of bytes ≡ read.Refused f → (registrar_message t d bytes).sends ≡ false
+pub unread_silent : (t : TransactionTable) (d : RegistrarInput) (bytes : List ℕ) (f : ReadFault) → reading_of bytes ≡ Err f → (registrar_message t d bytes).sends ≡ false
 unfolding registrar_message registrar_read
 unread_silent t d bytes f e = rw e
 
@@ -122,11 +122,11 @@ unread_at : (f : ReadFault) → UnreadRule f (outcome.Refused (read_refusal f) (
 unfolding bit_of
 unread_at f = record { one = λ e. rw e; two = λ d. rw (other_than f.number 1 d _ refl) }
 
-pub registrar_unread : (t : TransactionTable) (d : RegistrarInput) (bytes : List ℕ) (f : ReadFault) → reading_of bytes ≡ read.Refused f → UnreadRule f (registrar_message t d bytes).outcome
+pub registrar_unread : (t : TransactionTable) (d : RegistrarInput) (bytes : List ℕ) (f : ReadFault) → reading_of bytes ≡ Err f → UnreadRule f (registrar_message t d bytes).outcome
 unfolding registrar_message registrar_read
 registrar_unread t d bytes f e = rw e (unread_at f)
 
-pub end_entity_unread : (x : Enrolment) (d : EndEntityInput) (bytes : List ℕ) (f : ReadFault) → reading_of bytes ≡ read.Refused f → UnreadRule f (end_entity_message x d bytes).outcome
+pub end_entity_unread : (x : Enrolment) (d : EndEntityInput) (bytes : List ℕ) (f : ReadFault) → reading_of bytes ≡ Err f → UnreadRule f (end_entity_message x d bytes).outcome
 unfolding end_entity_message end_entity_read
 end_entity_unread x d bytes f e = rw e (unread_at f)
 

@@ -1,4 +1,5 @@
 -- The witnesses: the premises hold on them, and they end Sure with Confirmed, by ir and by p10cr, and Declined with Declined.
+use Rattle.std.specs.Prelude.{Some}
 use Prim.Native.Nat.{ℕ}
 use mathlib.Core.List.{List, [], ◌∷◌}
 use mathlib.Core.Bool.{Bool, true, false, ◌||◌}
@@ -12,7 +13,6 @@ use Rattle.protocol.specs.declared.TransactionState.{TransactionState}
 use Rattle.protocol.specs.declared.EnrolmentState.{EnrolmentState}
 use Rattle.protocol.specs.declared.Outgoing.{Outgoing}
 use Rattle.protocol.specs.declared.EnrolmentState.TheVariants as at_board
-use Rattle.protocol.specs.declared.Verdict.TheVariants.{Good}
 use Rattle.protocol.specs.declared.TransactionState.TheVariants as at_registrar
 use Rattle.protocol.specs.Bytes.{same_nonce, same_id, same_bytes}
 use Rattle.protocol.specs.Message.{Fields}
@@ -24,7 +24,7 @@ use Rattle.protocol.specs.Registrar.{registrar_fields, registrar_checked, regist
 use Rattle.protocol.specs.EndEntityRows.{end_entity_rows}
 use Rattle.protocol.specs.EndEntity.{end_entity_start, end_entity_checked}
 use Rattle.protocol.specs.Run.{Event, End, Issue, step, Start, ToRegistrar, ToEndEntity, World, run, beginning}
-use Rattle.protocol.specs.Agreement.{Issued, Some, SenderIssued, FairEvent, Fair}
+use Rattle.protocol.specs.Agreement.{Issued, SomeEvent, SenderIssued, FairEvent, Fair}
 use Rattle.protocol.specs.Witness.{nonce, id, board, ir_bytes, hash, ip_bytes, pki_conf_bytes, board_says, registrar_says, EndsIn, enrols_by, enrols, accept_bytes, decline_bytes, p10cr_bytes, cp_bytes, accept_p10cr_bytes, Witnesses}
 use Rattle.protocol.proofs.Tests.{same_bytes_refl, none_some, true_false, some_some}
 use Rattle.protocol.proofs.WitnessReadings.{ReadsAs, ir_fields, ir_reads, ip_fields, ip_reads, pki_conf_fields, pkiconf_reads, accept_fields, accept_reads, decline_fields, decline_reads, p10cr_fields, p10cr-reads, cp_fields, cp_reads, accept_p10cr_fields, accept_p10cr_reads}
@@ -57,7 +57,7 @@ sent_in_lem [] p o i = absurd i
 sent_in_lem (e ∷ past) p o (inl g) = rw (g.1, same_bytes_refl o.sender_nonce.bytes)
 sent_in_lem (e ∷ past) p o (inr i) = rw (sent_in_lem past p o i) (or_true_right (sends o.sender_nonce e.sent))
 
-drawn_in_lem : (past : List Event) (i : TransactionId) → Some (λ f. f.drawn ≡ some i) past → drawn_in i past ≡ true
+drawn_in_lem : (past : List Event) (i : TransactionId) → SomeEvent (λ f. f.drawn ≡ some i) past → drawn_in i past ≡ true
 drawn_in_lem [] i h = absurd h
 drawn_in_lem (e ∷ past) i (inl g) = rw (g, same_bytes_refl i.bytes)
 drawn_in_lem (e ∷ past) i (inr h) = rw (drawn_in_lem past i h) (or_true_right (draws i e.drawn))
@@ -75,7 +75,7 @@ nonce_new_lem none past t o e p u i s = none_some e
 nonce_new_lem (some r) past t o e p u i s =
     true_false (sym (sent_in_lem past p u i) ∙ ap (λ (n : Nonce). sent_in n past) (sym s) ∙ ap (λ (y : Outgoing). sent_in y.sender_nonce past) (sym (some_some e)) ∙ t)
 
-id_new_lem : (q : Option TransactionId) (past : List Event) → id_new q past → (i : TransactionId) → q ≡ some i → Some (λ f. f.drawn ≡ some i) past → ⊥
+id_new_lem : (q : Option TransactionId) (past : List Event) → id_new q past → (i : TransactionId) → q ≡ some i → SomeEvent (λ f. f.drawn ≡ some i) past → ⊥
 id_new_lem none past t i e h = none_some e
 id_new_lem (some j) past t i e h = true_false (sym (drawn_in_lem past i h) ∙ ap (λ (y : TransactionId). drawn_in y past) (sym (some_some e)) ∙ t)
 
@@ -105,10 +105,10 @@ module _ (q : Asking) (accept : Bool) (bytes : List ℕ) (f : Fields) (r : Reads
   abbrev steps : List ReadCall
   steps =
       record { call = Start board q.kind id (nonce 1); fields = q.request_fields; reads = tt }
-      ∷ record { call = ToRegistrar q.request_bytes (record { verdict = Good board; nonce = nonce 2 }); fields = q.request_fields; reads = q.request }
+      ∷ record { call = ToRegistrar q.request_bytes (record { verdict = Some board; nonce = nonce 2 }); fields = q.request_fields; reads = q.request }
       ∷ record { call = Issue id hash (nonce 3); fields = q.request_fields; reads = tt }
       ∷ record { call = ToEndEntity 0 q.response_bytes (record { good = true; accept = accept; hash = hash; nonce = nonce 4 }); fields = q.response_fields; reads = q.response }
-      ∷ record { call = ToRegistrar bytes (record { verdict = Good board; nonce = nonce 5 }); fields = f; reads = r }
+      ∷ record { call = ToRegistrar bytes (record { verdict = Some board; nonce = nonce 5 }); fields = f; reads = r }
       ∷ record { call = ToEndEntity 0 pki_conf_bytes (record { good = true; accept = accept; hash = hash; nonce = nonce 6 }); fields = pki_conf_fields; reads = pkiconf_reads }
       ∷ []
 

@@ -1,4 +1,5 @@
 -- What the reader finds in the witnesses' eight messages. Each equation is computed by the reader's definition.
+use Rattle.std.specs.Prelude.{Ok}
 use Prim.Native.Nat.{ℕ}
 use mathlib.Core.List.{List, []}
 use mathlib.Core.Bool.{Bool, true, false}
@@ -16,7 +17,6 @@ use Rattle.grammar.specs.Entries.{request_of, choice_of, key_pair, maybe_key_pai
 use Rattle.grammar.specs.Body.{at_least_one, requests_of, responses_of, confirmations_of, error_of, p10cr_of, other_of, contents_of, body_tag, body_of}
 use Rattle.grammar.specs.Message.{start_at, message_of}
 use Rattle.message.specs.Read.{lowest, reading_of}
-use Rattle.message.specs.declared.Reading.TheVariants as read
 use Rattle.grammar.specs.declared.Message.{Message}
 use Rattle.protocol.specs.Message.{minus_one, Fields, fields_of}
 use Rattle.protocol.specs.Witness.{ir_bytes, ip_bytes, accept_bytes, decline_bytes, pki_conf_bytes, p10cr_bytes, cp_bytes, accept_p10cr_bytes}
@@ -24,7 +24,7 @@ use Rattle.protocol.specs.Witness.{ir_bytes, ip_bytes, accept_bytes, decline_byt
 -- the bytes read cleanly, and their fields are these
 pub record ReadsAs (bytes : List ℕ) (f : Fields) : Type 0 where
   pub message : Message
-  pub reads : reading_of bytes ≡ read.Clean message
+  pub reads : reading_of bytes ≡ Ok message
   pub fields : fields_of bytes message ≡ f
 
 -- a protected message of version 2 for the id: its kind, nonces, entries, number, status, hash and whether it has a certificate

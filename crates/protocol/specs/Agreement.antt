@@ -1,15 +1,14 @@
 -- Demand 3: what is supposed of a list of calls, and what then holds after it. Nothing here uses a test of the steps.
-use Rattle.std.specs.Prelude.{ℕ, List, [], ◌∷◌, Bool, true, false, ◌≡◌, ◌⊎◌, ◌≢◌, take, drop}
+use Rattle.std.specs.Prelude.{ℕ, List, [], ◌∷◌, Bool, true, false, ◌≡◌, ◌⊎◌, ◌≢◌, take, drop, Ok, Err, Some, None}
 use Rattle.std.proofs.Math.Option.{some}
 use Rattle.std.proofs.Math.ListN.{get_elem?}
 use Rattle.message.specs.Read.{reading_of}
 use Rattle.grammar.specs.declared.Span.{Span}
 use Rattle.grammar.specs.declared.Message.{Message}
-use Rattle.message.specs.declared.Reading.{Reading}
-use Rattle.message.specs.declared.Reading.TheVariants as read
+use Rattle.message.specs.Types.{Reading}
 use Rattle.protocol.specs.declared.TransactionId.{TransactionId}
 use Rattle.protocol.specs.declared.Nonce.{Nonce}
-use Rattle.protocol.specs.declared.Verdict.{Verdict}
+use Rattle.protocol.specs.Types.{Verdict}
 use Rattle.protocol.specs.declared.TransactionState.{TransactionState}
 use Rattle.protocol.specs.declared.Transaction.{Transaction}
 use Rattle.protocol.specs.declared.TransactionTable.{TransactionTable}
@@ -17,13 +16,12 @@ use Rattle.protocol.specs.declared.EnrolmentState.{EnrolmentState}
 use Rattle.protocol.specs.declared.Outgoing.{Outgoing}
 use Rattle.protocol.specs.declared.TransactionState.TheVariants as at_registrar
 use Rattle.protocol.specs.declared.EnrolmentState.TheVariants.{Asked, Confirming, Declining, Sure, Declined, Failed, Unsettled}
-use Rattle.protocol.specs.declared.Verdict.TheVariants.{Bad, Good}
 use Rattle.protocol.specs.Run.{Event, End, Issue, Refuse, OneBoard, TheRegistrar, Call, Start, ToRegistrar, ToEndEntity, Lapse, Close, TimeOut, World, BoardEnrolment, run}
 
 -- some event of the list is such
-abbrev pub Some : (Event → Type 0) → List Event → Type 0
-Some P [] = ⊥
-Some P (e ∷ past) = P e ⊎ Some P past
+abbrev pub SomeEvent : (Event → Type 0) → List Event → Type 0
+SomeEvent P [] = ⊥
+SomeEvent P (e ∷ past) = P e ⊎ SomeEvent P past
 
 -- ## "A message is issued when a call earlier in the list, at the end named, gave an order with"
 
@@ -32,7 +30,7 @@ Gave p o e = (e.end ≡ p) × (e.sent ≡ some o)
 
 -- a call at this end gave this message to be sent
 abbrev pub Issued : End → Outgoing → List Event → Type 0
-Issued p o = Some (Gave p o)
+Issued p o = SomeEvent (Gave p o)
 
 -- the part has these bytes
 abbrev pub PartIs : List ℕ → Span → List ℕ → Type 0
@@ -56,8 +54,8 @@ pub record Carries (bytes : List ℕ) (m : Message) (o : Outgoing) : Type 0 wher
 
 -- the bytes, as they read, are a message issued at the end; nothing is asked of bytes that do not read
 abbrev pub IssuedReading : End → List ℕ → Reading → List Event → Type 0
-IssuedReading p bytes (read.Refused f) past = Unit {0}
-IssuedReading p bytes (read.Clean m) past = (o : Outgoing) × Issued p o past × Carries bytes m o
+IssuedReading p bytes (Err f) past = Unit {0}
+IssuedReading p bytes (Ok m) past = (o : Outgoing) × Issued p o past × Carries bytes m o
 
 abbrev pub IssuedMessage : End → List ℕ → List Event → Type 0
 IssuedMessage p bytes past = IssuedReading p bytes (reading_of bytes) past
@@ -66,8 +64,8 @@ IssuedMessage p bytes past = IssuedReading p bytes (reading_of bytes) past
 
 -- "a good verdict names the board whose key checked"
 abbrev pub ByVerdict : Verdict → List ℕ → List Event → Type 0
-ByVerdict Bad bytes past = Unit {0}
-ByVerdict (Good b) bytes past = IssuedMessage (OneBoard b) bytes past
+ByVerdict None bytes past = Unit {0}
+ByVerdict (Some b) bytes past = IssuedMessage (OneBoard b) bytes past
 
 -- "A good verdict at a board names the desk."
 abbrev pub ByGood : Bool → List ℕ → List Event → Type 0
@@ -88,7 +86,7 @@ SenderIssued (TimeOut k) past = Unit {0}
 pub record FairEvent (e : Event) (past : List Event) : Type 0 where
   pub verdict : SenderIssued e.call past
   -- "an id is drawn when a start takes it,"
-  pub id : (i : TransactionId) → e.drawn ≡ some i → Some (λ f. f.drawn ≡ some i) past → ⊥
+  pub id : (i : TransactionId) → e.drawn ≡ some i → SomeEvent (λ f. f.drawn ≡ some i) past → ⊥
   -- "a nonce when an order carries it as senderNonce."
   pub nonce : (o : Outgoing) → e.sent ≡ some o → (p : End) (u : Outgoing) → Issued p u past → o.sender_nonce ≡ u.sender_nonce → ⊥
 
@@ -170,7 +168,7 @@ pub record Agreement (w : World) : Type 0 where
   -- "Whenever the desk says Confirmed, that board holds the same hash and says Sure, Confirming or Unsettled."
   pub confirmed : (i : TransactionId) (r : Transaction) → RegistrarHolds w.table i r → r.state ≡ at_registrar.Confirmed → BoardOf w i r
   -- "For a board that says Failed, the desk said Confirmed at no point of the list."
-  pub failed : (k : ℕ) (x : BoardEnrolment) → Holds w k x → x.enrolment.state ≡ Failed → Some (λ e. SaysConfirmed e.table x.enrolment.id) w.past → ⊥
+  pub failed : (k : ℕ) (x : BoardEnrolment) → Holds w k x → x.enrolment.state ≡ Failed → SomeEvent (λ e. SaysConfirmed e.table x.enrolment.id) w.past → ⊥
   -- "So until that closing the ends agree, or the board says Confirming, Declining or Unsettled."
   pub agree : (k : ℕ) (x : BoardEnrolment) → Holds w k x → AgreesOrBetween w x x.enrolment.state
 

@@ -1,10 +1,9 @@
 -- Demand 2: "A confirmation moves a record exactly when ...", in the user's words.
-use Rattle.std.specs.Prelude.{ℕ, List, true, false, ◌≡◌, ◌⊎◌, ◌≢◌, length, take, drop}
+use Rattle.std.specs.Prelude.{ℕ, List, true, false, ◌≡◌, ◌⊎◌, ◌≢◌, length, take, drop, Ok, Some}
 use Rattle.std.proofs.Math.Option.{some}
 use Rattle.message.specs.Read.{reading_of}
 use Rattle.grammar.specs.declared.Span.{Span}
 use Rattle.grammar.specs.declared.Message.{Message}
-use Rattle.message.specs.declared.Reading.TheVariants as read
 use Rattle.protocol.specs.declared.TransactionId.{TransactionId}
 use Rattle.protocol.specs.declared.Nonce.{Nonce}
 use Rattle.protocol.specs.declared.RegistrarInput.{RegistrarInput}
@@ -16,7 +15,6 @@ use Rattle.protocol.specs.declared.Outcome.{Outcome}
 use Rattle.protocol.specs.declared.RegistrarAnswer.{RegistrarAnswer}
 use Rattle.protocol.specs.declared.Outcome.TheVariants as outcome
 use Rattle.protocol.specs.declared.TransactionState.TheVariants.{Granted, Confirmed, Declined}
-use Rattle.protocol.specs.declared.Verdict.TheVariants.{Good}
 use Rattle.protocol.specs.Refusals.{no_fault}
 use Rattle.protocol.specs.Table.{lookup}
 use Rattle.protocol.specs.Registrar.{registrar_message}
@@ -31,13 +29,13 @@ Sixteen bytes s x = (s.start.0 ≢ 0) × (take s.len (drop s.start.0 bytes) ≡ 
 -- the confirmation m, in these bytes, matches the transaction r in all but the state
 pub record Matches (t : TransactionTable) (d : RegistrarInput) (bytes : List ℕ) (m : Message) (r : Transaction) : Type 0 where
   -- "it reads cleanly with one entry,"
-  pub reads : reading_of bytes ≡ read.Clean m
+  pub reads : reading_of bytes ≡ Ok m
   pub kind : m.body.kind ≡ 24
   pub entries : m.body.entries ≡ 1
   -- "its protection is there with its algorithm named and was found good for that board,"
   pub protection : m.protection.start.0 ≢ 0
   pub algorithm : m.header.protection_alg.start.0 ≢ 0
-  pub good : d.verdict ≡ Good r.board
+  pub good : d.verdict ≡ Some r.board
   -- "and its version,": 2 or 3, and with a hashAlg 3
   pub version : (m.header.version ≡ 2) ⊎ (m.header.version ≡ 3)
   pub hash_alg : m.body.entry.hash_alg.start.0 ≢ 0 → m.header.version ≡ 3
@@ -76,7 +74,7 @@ pub record Repeating (t : TransactionTable) (d : RegistrarInput) (bytes : List �
 
 -- a step with a confirmation that ended so
 pub record Confirms (t : TransactionTable) (d : RegistrarInput) (bytes : List ℕ) (m : Message) (o : Outcome) : Type 0 where
-  pub reads : reading_of bytes ≡ read.Clean m
+  pub reads : reading_of bytes ≡ Ok m
   pub kind : m.body.kind ≡ 24
   pub ends : (registrar_message t d bytes).outcome ≡ o
 
@@ -113,7 +111,7 @@ pub record ConfirmationRule (t : TransactionTable) (d : RegistrarInput) (bytes :
   pub repeats : Confirms t d bytes m outcome.Again → (r : Transaction) × Repeating t d bytes m r
   pub repeated : (r : Transaction) (c : Repeating t d bytes m r) → RepeatedAnswer t d r c.match.id c.match.nonce (registrar_message t d bytes)
   pub else :
-      reading_of bytes ≡ read.Clean m
+      reading_of bytes ≡ Ok m
       → m.body.kind ≡ 24
       → ((r : Transaction) → Moving t d bytes m r → ⊥)
       → ((r : Transaction) → Repeating t d bytes m r → ⊥)

@@ -1,9 +1,8 @@
 -- "The board's states": an end entity's calls on one enrolment. The start, a message, and a time out.
-use Rattle.std.specs.Prelude.{ℕ, List, Bool, true, false, cond, ◌||◌, eqb}
+use Rattle.std.specs.Prelude.{ℕ, List, Bool, true, false, cond, ◌||◌, eqb, Ok, Err}
 use Rattle.message.specs.Read.{reading_of}
 use Rattle.message.specs.declared.ReadFault.{ReadFault}
-use Rattle.message.specs.declared.Reading.{Reading}
-use Rattle.message.specs.declared.Reading.TheVariants as read
+use Rattle.message.specs.Types.{Reading}
 use Rattle.protocol.specs.declared.TransactionId.{TransactionId}
 use Rattle.protocol.specs.declared.Nonce.{Nonce}
 use Rattle.protocol.specs.declared.FreshNonce.{FreshNonce}
@@ -87,8 +86,8 @@ end_entity_checked pass x d m = end_entity_taken x d m
 
 -- "The reading is taken apart; a refusal ends the step at once"
 unfoldable pub end_entity_read : Reading → Enrolment → EndEntityInput → List ℕ → EndEntityAnswer
-end_entity_read (read.Refused f) x d bytes = enrolment_unread f x
-end_entity_read (read.Clean m) x d bytes = end_entity_checked (lowest_row (end_entity_rows x d.good (fields_of bytes m))) x d (fields_of bytes m)
+end_entity_read (Err f) x d bytes = enrolment_unread f x
+end_entity_read (Ok m) x d bytes = end_entity_checked (lowest_row (end_entity_rows x d.good (fields_of bytes m))) x d (fields_of bytes m)
 
 -- A message at an end entity.
 unfoldable pub end_entity_message : Enrolment → EndEntityInput → (bytes : List ℕ) → EndEntityAnswer

@@ -1,8 +1,7 @@
 -- A message at an end entity is taken exactly when ..., and what it then does to the enrolment.
-use Rattle.std.specs.Prelude.{ℕ, List, true, false, ◌≡◌, ◌⊎◌, ◌≢◌, replicate, take, drop}
+use Rattle.std.specs.Prelude.{ℕ, List, true, false, ◌≡◌, ◌⊎◌, ◌≢◌, replicate, take, drop, Ok, None}
 use Rattle.message.specs.Read.{reading_of}
 use Rattle.grammar.specs.declared.Message.{Message}
-use Rattle.message.specs.declared.Reading.TheVariants as read
 use Rattle.protocol.specs.declared.TransactionId.{TransactionId}
 use Rattle.protocol.specs.declared.Nonce.{Nonce}
 use Rattle.protocol.specs.declared.FreshNonce.{FreshNonce}
@@ -11,7 +10,6 @@ use Rattle.protocol.specs.declared.EnrolmentState.{EnrolmentState}
 use Rattle.protocol.specs.declared.Enrolment.{Enrolment}
 use Rattle.protocol.specs.declared.EndEntityAnswer.{EndEntityAnswer}
 use Rattle.protocol.specs.declared.EnrolmentState.TheVariants.{Asked, Confirming, Declining, Sure, Declined, Failed, Unsettled}
-use Rattle.protocol.specs.declared.FailureInfo.TheVariants.{NoBit}
 use Rattle.protocol.specs.declared.Outcome.TheVariants as outcome
 use Rattle.protocol.specs.Message.{response_to}
 use Rattle.protocol.specs.Refusals.{no_fault}
@@ -24,7 +22,7 @@ use Rattle.protocol.specs.Request.{IsRequest}
 
 -- 3 to 7, 12 and 14: what every message must have
 pub record Heard (x : Enrolment) (d : EndEntityInput) (bytes : List ℕ) (m : Message) : Type 0 where
-  pub reads : reading_of bytes ≡ read.Clean m
+  pub reads : reading_of bytes ≡ Ok m
   pub version : (m.header.version ≡ 2) ⊎ (m.header.version ≡ 3)
   pub has_id : Sixteen bytes m.header.transaction_id x.id.bytes
   pub nonce : Nonce
@@ -78,14 +76,14 @@ certifies x d n q s status =
             sender_nonce = ours d.nonce;
             has_recip_nonce = true;
             recip_nonce = n;
-            contents = record { has_status = true; status = status; hash = d.hash; failure = NoBit; has_number = true; number = q };
+            contents = record { has_status = true; status = status; hash = d.hash; failure = None; has_number = true; number = q };
           };
       enrolment = record { id = x.id; kind = x.kind; last = ours d.nonce; taken = n; hash = d.hash; state = s };
     }
 
 pub record EnrolmentRule (x : Enrolment) (d : EndEntityInput) (bytes : List ℕ) (m : Message) : Type 0 where
   -- a message is taken only if
-  pub takes : reading_of bytes ≡ read.Clean m → (end_entity_message x d bytes).outcome ≡ outcome.Done → Heard x d bytes m × (Acknowledges x m ⊎ Reports x m ⊎ ((s : ℕ) × Responds x m s))
+  pub takes : reading_of bytes ≡ Ok m → (end_entity_message x d bytes).outcome ≡ outcome.Done → Heard x d bytes m × (Acknowledges x m ⊎ Reports x m ⊎ ((s : ℕ) × Responds x m s))
   -- "pkiconf: Confirming to Sure, Declining to Declined."
   pub sure : (c : Heard x d bytes m) → Acknowledges x m → x.state ≡ Confirming → end_entity_message x d bytes ≡ becomes x Sure
   pub declined : (c : Heard x d bytes m) → Acknowledges x m → x.state ≡ Declining → end_entity_message x d bytes ≡ becomes x Declined
@@ -101,11 +99,11 @@ pub record EnrolmentRule (x : Enrolment) (d : EndEntityInput) (bytes : List ℕ)
 pub record TimeOutRule (x : Enrolment) : Type 0 where
   pub failed : x.state ≡ Asked → end_entity_time_out x ≡ becomes x Failed
   pub unsettled : (x.state ≡ Confirming) ⊎ (x.state ≡ Declining) → end_entity_time_out x ≡ becomes x Unsettled
-  pub else : (x.state ≡ Sure) ⊎ (x.state ≡ Declined) ⊎ (x.state ≡ Failed) ⊎ (x.state ≡ Unsettled) → end_entity_time_out x ≡ record { outcome = outcome.Refused 31 NoBit; fault = no_fault; sends = false; outgoing = silent; enrolment = x }
+  pub else : (x.state ≡ Sure) ⊎ (x.state ≡ Declined) ⊎ (x.state ≡ Failed) ⊎ (x.state ≡ Unsettled) → end_entity_time_out x ≡ record { outcome = outcome.Refused 31 None; fault = no_fault; sends = false; outgoing = silent; enrolment = x }
 
 -- "Start gives Asked", with the request as the message to be sent; 32: "kind not 0, 2, 4 or 7"
 pub record StartRule (k : ℕ) (i : TransactionId) (n : FreshNonce) : Type 0 where
   pub asked : IsRequest k → (end_entity_start k i n).enrolment ≡ record { id = i; kind = k; last = ours n; taken = record { bytes = replicate 16 0 }; hash = record { bytes = replicate 32 0 }; state = Asked }
   pub sent : IsRequest k → (end_entity_start k i n).outgoing ≡ record { kind = k; id = i; sender_nonce = ours n; has_recip_nonce = false; recip_nonce = record { bytes = replicate 16 0 }; contents = bare }
   pub done : IsRequest k → ((end_entity_start k i n).outcome ≡ outcome.Done) × ((end_entity_start k i n).sends ≡ true)
-  pub else : (IsRequest k → ⊥) → ((end_entity_start k i n).outcome ≡ outcome.Refused 32 NoBit) × ((end_entity_start k i n).sends ≡ false)
+  pub else : (IsRequest k → ⊥) → ((end_entity_start k i n).outcome ≡ outcome.Refused 32 None) × ((end_entity_start k i n).sends ≡ false)

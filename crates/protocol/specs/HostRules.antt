@@ -1,5 +1,5 @@
 -- The registrar's host steps, each with its complete answer: 01's sentences once more, in words of their own.
-use Rattle.std.specs.Prelude.{ℕ, true, false, ◌≡◌, ◌⊎◌, replicate}
+use Rattle.std.specs.Prelude.{ℕ, true, false, ◌≡◌, ◌⊎◌, replicate, None}
 use Rattle.std.proofs.Math.Option.{none, some}
 use Rattle.protocol.specs.declared.TransactionId.{TransactionId}
 use Rattle.protocol.specs.declared.Nonce.{Nonce}
@@ -10,7 +10,6 @@ use Rattle.protocol.specs.declared.Transaction.{Transaction}
 use Rattle.protocol.specs.declared.TransactionTable.{TransactionTable}
 use Rattle.protocol.specs.declared.Outgoing.{Outgoing}
 use Rattle.protocol.specs.declared.RegistrarAnswer.{RegistrarAnswer}
-use Rattle.protocol.specs.declared.FailureInfo.TheVariants.{NoBit}
 use Rattle.protocol.specs.declared.Outcome.TheVariants as outcome
 use Rattle.protocol.specs.declared.TransactionState.TheVariants.{Free, Asked, Granted, Confirmed, Declined, Refused, Lapsed}
 use Rattle.protocol.specs.Message.{response_to}
@@ -23,7 +22,7 @@ use Rattle.protocol.specs.Registrar.{registrar_issue, registrar_refuse, registra
 
 -- refused by this number, with no bit and nothing to send, and the table as it was
 abbrev pub host_refusal : ℕ → TransactionTable → RegistrarAnswer
-host_refusal n t = record { outcome = outcome.Refused n NoBit; fault = no_fault; slot = record { 0 = 0 }; sends = false; outgoing = silent; table = t }
+host_refusal n t = record { outcome = outcome.Refused n None; fault = no_fault; slot = record { 0 = 0 }; sends = false; outgoing = silent; table = t }
 
 -- a host step for the id: 30 "id not in the book", 31 "state doesn't allow it", else this
 pub record HostRule (t : TransactionTable) (i : TransactionId) (Allowed : TransactionState → Type 0) (Next : Transaction → RegistrarAnswer → Type 0) (a : RegistrarAnswer) : Type 0 where
@@ -40,7 +39,7 @@ response_sent k i n a s q =
       sender_nonce = ours n;
       has_recip_nonce = true;
       recip_nonce = a;
-      contents = record { has_status = true; status = s; hash = record { bytes = replicate 32 0 }; failure = NoBit; has_number = true; number = q };
+      contents = record { has_status = true; status = s; hash = record { bytes = replicate 32 0 }; failure = None; has_number = true; number = q };
     }
 
 -- the complete answer: the transaction r of this id becomes x, and this is sent with the request number of its kind

@@ -1,18 +1,17 @@
 -- What a refused message sends, and the corners of the table that 01 and its list of slips name.
-use Rattle.std.specs.Prelude.{ℕ, ◌<◌, ◌≤◌, List, true, false, ◌≡◌, ◌⊎◌, replicate}
+use Rattle.std.specs.Prelude.{ℕ, ◌<◌, ◌≤◌, List, true, false, ◌≡◌, ◌⊎◌, replicate, Some, None}
 use Rattle.std.proofs.Math.Option.{none}
 use Rattle.message.specs.declared.ReadFault.{ReadFault}
 use Rattle.protocol.specs.declared.TransactionId.{TransactionId}
 use Rattle.protocol.specs.declared.Nonce.{Nonce}
 use Rattle.protocol.specs.declared.FreshNonce.{FreshNonce}
-use Rattle.protocol.specs.declared.Verdict.{Verdict}
+use Rattle.protocol.specs.Types.{Verdict}
 use Rattle.protocol.specs.declared.Transaction.{Transaction}
 use Rattle.protocol.specs.declared.TransactionTable.{TransactionTable}
-use Rattle.protocol.specs.declared.FailureInfo.{FailureInfo}
+use Rattle.protocol.specs.Types.{FailureInfo}
 use Rattle.protocol.specs.declared.Outgoing.{Outgoing}
 use Rattle.protocol.specs.declared.Outcome.{Outcome}
 use Rattle.protocol.specs.declared.RegistrarAnswer.{RegistrarAnswer}
-use Rattle.protocol.specs.declared.FailureInfo.TheVariants.{NoBit, Bit}
 use Rattle.protocol.specs.declared.Outcome.TheVariants as outcome
 use Rattle.protocol.specs.declared.TransactionState.TheVariants.{Asked, Refused, Lapsed}
 use Rattle.protocol.specs.Message.{Fields, response_to}
@@ -42,8 +41,8 @@ pub record ErrorRule (i : TransactionId) (n : FreshNonce) (a : Nonce) (answer : 
 
 -- bytes that do not read are refused by 1 (their length) or 2, both with bit 5
 pub record UnreadRule (f : ReadFault) (o : Outcome) : Type 0 where
-  pub one : f.number ≡ 1 → o ≡ outcome.Refused 1 (Bit 5)
-  pub two : (f.number ≡ 1 → ⊥) → o ≡ outcome.Refused 2 (Bit 5)
+  pub one : f.number ≡ 1 → o ≡ outcome.Refused 1 (Some 5)
+  pub two : (f.number ≡ 1 → ⊥) → o ≡ outcome.Refused 2 (Some 5)
 
 -- 8 at the registrar: a message that is neither a request (0, 2, 4, 7) nor a certConf (24) is refused
 abbrev pub OtherKind : ℕ → Type 0
@@ -60,11 +59,11 @@ NotBefore8 v m = (k : ℕ) → Applies k (head_rows (is_good v) m) → ⊥
 abbrev pub refused_by8 : TransactionTable → TransactionId → FreshNonce → Nonce → RegistrarAnswer
 refused_by8 t i n a =
     record {
-      outcome = outcome.Refused 8 (Bit 2);
+      outcome = outcome.Refused 8 (Some 2);
       fault = no_fault;
       slot = record { 0 = 0 };
       sends = true;
-      outgoing = error_message i n a (Bit 2);
+      outgoing = error_message i n a (Some 2);
       table = t;
     }
 
@@ -89,9 +88,9 @@ pub record Tables : Type 0 where
   -- "0:1, 2:3, 4:3, 7:8"
   pub pairing : (response_to 0 ≡ 1) × (response_to 2 ≡ 3) × (response_to 4 ≡ 3) × (response_to 7 ≡ 8)
   -- "11 if Confirmed, else 2"
-  pub bit20 : (bit_of 20 true ≡ Bit 11) × (bit_of 20 false ≡ Bit 2)
+  pub bit20 : (bit_of 20 true ≡ Some 11) × (bit_of 20 false ≡ Some 2)
   -- "none" is no bit, and not bit 0
-  pub no_bit : (bit_of 21 false ≡ NoBit) × (bit_of 30 false ≡ NoBit) × (bit_of 31 false ≡ NoBit) × (bit_of 32 false ≡ NoBit)
+  pub no_bit : (bit_of 21 false ≡ None) × (bit_of 30 false ≡ None) × (bit_of 31 false ≡ None) × (bit_of 32 false ≡ None)
   -- where no message is to be sent: zeros, no flag and no bit
   pub unsent :
       silent

@@ -1,20 +1,19 @@
 -- The messages that the steps give to be sent, each with all it carries.
-use Rattle.std.specs.Prelude.{ℕ, true, false}
+use Rattle.std.specs.Prelude.{ℕ, true, false, None}
 use Rattle.protocol.specs.declared.TransactionId.{TransactionId}
 use Rattle.protocol.specs.declared.Nonce.{Nonce}
 use Rattle.protocol.specs.declared.FreshNonce.{FreshNonce}
 use Rattle.protocol.specs.declared.Hash.{Hash}
-use Rattle.protocol.specs.declared.FailureInfo.{FailureInfo}
+use Rattle.protocol.specs.Types.{FailureInfo}
 use Rattle.protocol.specs.declared.OutgoingContents.{OutgoingContents}
 use Rattle.protocol.specs.declared.Outgoing.{Outgoing}
-use Rattle.protocol.specs.declared.FailureInfo.TheVariants.{NoBit}
 use Rattle.protocol.specs.Bytes.{no_id, no_nonce, no_hash, nonce_from}
 use Rattle.protocol.specs.Message.{cert_conf, pki_conf, error_kind, response_to, request_number}
 
 -- ## What only some kinds carry
 
 abbrev pub no_contents : OutgoingContents
-no_contents = record { has_status = false; status = 0; hash = no_hash; failure = NoBit; has_number = false; number = 0 }
+no_contents = record { has_status = false; status = 0; hash = no_hash; failure = None; has_number = false; number = 0 }
 
 -- Each of these sets a part of the contents and leaves the others.
 abbrev pub with_status : ℕ → OutgoingContents → OutgoingContents

@@ -1,9 +1,8 @@
 -- "When the desk or a board says no": the table's rows, the lowest that applies, and the bit that goes with each number.
-use Rattle.std.specs.Prelude.{ℕ, List, [], ◌∷◌, Bool, true, not, cond, ◌||◌, length, eqb}
+use Rattle.std.specs.Prelude.{ℕ, List, [], ◌∷◌, Bool, true, not, cond, ◌||◌, length, eqb, Some, None}
 use Rattle.std.proofs.Math.Option.{Option, none, some}
 use Rattle.message.specs.declared.ReadFault.{ReadFault}
-use Rattle.protocol.specs.declared.FailureInfo.{FailureInfo}
-use Rattle.protocol.specs.declared.FailureInfo.TheVariants.{NoBit, Bit}
+use Rattle.protocol.specs.Types.{FailureInfo}
 use Rattle.protocol.specs.Message.{Fields}
 
 -- a row: the number, and whether it applies
@@ -36,34 +35,34 @@ has n b = record { number = n; bit = b }
 -- 01's column "bit"; the argument says whether the transaction is Confirmed at the registrar (20: "11 if Confirmed, else 2")
 abbrev pub bits : Bool → List NumberBit
 bits confirmed =
-    has 1 (Bit 5)
-    ∷ has 2 (Bit 5)
-    ∷ has 3 (Bit 22)
-    ∷ has 4 (Bit 5)
-    ∷ has 5 (Bit 18)
-    ∷ has 6 (Bit 1)
-    ∷ has 7 (Bit 1)
-    ∷ has 8 (Bit 2)
-    ∷ has 9 (Bit 2)
-    ∷ has 10 (Bit 21)
-    ∷ has 11 (Bit 24)
-    ∷ has 12 (Bit 2)
-    ∷ has 13 (Bit 23)
-    ∷ has 14 (Bit 13)
-    ∷ has 15 (Bit 2)
-    ∷ has 16 (Bit 2)
-    ∷ has 17 (Bit 2)
-    ∷ has 18 (Bit 2)
-    ∷ has 19 (Bit 4)
-    ∷ has 20 (cond confirmed (Bit 11) (Bit 2))
-    ∷ has 21 NoBit
-    ∷ has 30 NoBit
-    ∷ has 31 NoBit
-    ∷ has 32 NoBit
+    has 1 (Some 5)
+    ∷ has 2 (Some 5)
+    ∷ has 3 (Some 22)
+    ∷ has 4 (Some 5)
+    ∷ has 5 (Some 18)
+    ∷ has 6 (Some 1)
+    ∷ has 7 (Some 1)
+    ∷ has 8 (Some 2)
+    ∷ has 9 (Some 2)
+    ∷ has 10 (Some 21)
+    ∷ has 11 (Some 24)
+    ∷ has 12 (Some 2)
+    ∷ has 13 (Some 23)
+    ∷ has 14 (Some 13)
+    ∷ has 15 (Some 2)
+    ∷ has 16 (Some 2)
+    ∷ has 17 (Some 2)
+    ∷ has 18 (Some 2)
+    ∷ has 19 (Some 4)
+    ∷ has 20 (cond confirmed (Some 11) (Some 2))
+    ∷ has 21 None
+    ∷ has 30 None
+    ∷ has 31 None
+    ∷ has 32 None
     ∷ []
 
 abbrev pub bit_in : ℕ → List NumberBit → FailureInfo
-bit_in n [] = NoBit
+bit_in n [] = None
 bit_in n (b ∷ bs) = cond (eqb n b.number) b.bit (bit_in n bs)
 
 unfoldable pub bit_of : ℕ → (confirmed : Bool) → FailureInfo

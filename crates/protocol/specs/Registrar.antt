@@ -1,16 +1,15 @@
 -- "The desk's states": the registrar's calls. A message, and the host's issue, refuse, lapse and close.
-use Rattle.std.specs.Prelude.{ℕ, List, Bool, true, false, cond, leb}
+use Rattle.std.specs.Prelude.{ℕ, List, Bool, true, false, cond, leb, Ok, Err, Some, None}
 use Rattle.std.proofs.Math.Option.{Option, none, some}
 use Rattle.message.specs.Read.{reading_of}
 use Rattle.message.specs.declared.ReadFault.{ReadFault}
-use Rattle.message.specs.declared.Reading.{Reading}
-use Rattle.message.specs.declared.Reading.TheVariants as read
+use Rattle.message.specs.Types.{Reading}
 use Rattle.protocol.specs.declared.Board.{Board}
 use Rattle.protocol.specs.declared.TransactionId.{TransactionId}
 use Rattle.protocol.specs.declared.Nonce.{Nonce}
 use Rattle.protocol.specs.declared.FreshNonce.{FreshNonce}
 use Rattle.protocol.specs.declared.Hash.{Hash}
-use Rattle.protocol.specs.declared.Verdict.{Verdict}
+use Rattle.protocol.specs.Types.{Verdict}
 use Rattle.protocol.specs.declared.RegistrarInput.{RegistrarInput}
 use Rattle.protocol.specs.declared.TransactionState.{TransactionState}
 use Rattle.protocol.specs.declared.Transaction.{Transaction}
@@ -19,7 +18,6 @@ use Rattle.protocol.specs.declared.Outgoing.{Outgoing}
 use Rattle.protocol.specs.declared.RegistrarAnswer.{RegistrarAnswer}
 use Rattle.protocol.specs.declared.TransactionState.TheVariants.{Asked, Granted, Refused, Lapsed}
 use Rattle.protocol.specs.declared.Outcome.TheVariants as outcome
-use Rattle.protocol.specs.declared.Verdict.TheVariants.{Bad, Good}
 use Rattle.protocol.specs.Bytes.{as_id, as_nonce, no_nonce, no_hash, nonce_from}
 use Rattle.protocol.specs.Message.{Fields, status_or0, fields_of}
 use Rattle.protocol.specs.Outgoing.{silent, error_out, pki_conf_out, response_out}
@@ -49,8 +47,8 @@ done_sending p rs o = record { outcome = outcome.Done; fault = no_fault; slot = 
 -- ## A message
 
 abbrev pub board_named : Verdict → Board
-board_named Bad = record { 0 = 0 }
-board_named (Good b) = b
+board_named None = record { 0 = 0 }
+board_named (Some b) = b
 
 abbrev pub confirmed_at : Option Transaction → Bool
 confirmed_at none = false
@@ -112,8 +110,8 @@ registrar_fields t d m =
 
 -- "The reading is taken apart; a refusal ends the step at once"
 unfoldable pub registrar_read : Reading → TransactionTable → RegistrarInput → List ℕ → RegistrarAnswer
-registrar_read (read.Refused f) t d bytes = refused_reading f t
-registrar_read (read.Clean m) t d bytes = registrar_fields t d (fields_of bytes m)
+registrar_read (Err f) t d bytes = refused_reading f t
+registrar_read (Ok m) t d bytes = registrar_fields t d (fields_of bytes m)
 
 -- A message at the registrar.
 unfoldable pub registrar_message : TransactionTable → RegistrarInput → (bytes : List ℕ) → RegistrarAnswer

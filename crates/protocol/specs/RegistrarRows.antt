@@ -1,10 +1,9 @@
 -- The table of refusals for a message at the registrar, a definition for each row, in 01's order.
-use Rattle.std.specs.Prelude.{List, [], ◌∷◌, ◌++◌, Bool, true, false, not, cond, ◌&&◌, ◌||◌, eqb}
+use Rattle.std.specs.Prelude.{List, [], ◌∷◌, ◌++◌, Bool, true, false, not, cond, ◌&&◌, ◌||◌, eqb, Some, None}
 use Rattle.std.proofs.Math.Option.{Option, none, some, get_or}
 use Rattle.protocol.specs.declared.Board.{Board}
-use Rattle.protocol.specs.declared.Verdict.{Verdict}
+use Rattle.protocol.specs.Types.{Verdict}
 use Rattle.protocol.specs.declared.Transaction.{Transaction}
-use Rattle.protocol.specs.declared.Verdict.TheVariants.{Bad, Good}
 use Rattle.protocol.specs.Bytes.{present, is_nonce, same_hash}
 use Rattle.protocol.specs.Message.{Fields, is_opening_kind, cert_conf, request_number, status_or0}
 use Rattle.protocol.specs.Table.{has_free_slot, free_transaction}
@@ -12,13 +11,13 @@ use Rattle.protocol.specs.States.{has_sent, has_hash, settled_by, is_granted}
 use Rattle.protocol.specs.Refusals.{Row, head_rows, row}
 
 abbrev pub is_good : Verdict → Bool
-is_good Bad = false
-is_good (Good b) = true
+is_good None = false
+is_good (Some b) = true
 
 -- the verdict names this board
 abbrev pub names : Verdict → Board → Bool
-names Bad b = false
-names (Good a) b = eqb a.0 b.0
+names None b = false
+names (Some a) b = eqb a.0 b.0
 
 abbrev pub is_known : Option Transaction → Bool
 is_known none = false

@@ -1,10 +1,9 @@
 -- A request (01's opening) opens a transaction exactly when ..., and where: the lowest free slot.
-use Rattle.std.specs.Prelude.{ℕ, ◌≤◌, List, ◌≡◌, ◌⊎◌, ◌≢◌, replicate}
+use Rattle.std.specs.Prelude.{ℕ, ◌≤◌, List, ◌≡◌, ◌⊎◌, ◌≢◌, replicate, Ok, Some}
 use Rattle.std.proofs.Math.Option.{none, some}
 use Rattle.std.proofs.Math.ListN.{get_elem?}
 use Rattle.message.specs.Read.{reading_of}
 use Rattle.grammar.specs.declared.Message.{Message}
-use Rattle.message.specs.declared.Reading.TheVariants as read
 use Rattle.protocol.specs.declared.Board.{Board}
 use Rattle.protocol.specs.declared.TransactionId.{TransactionId}
 use Rattle.protocol.specs.declared.Nonce.{Nonce}
@@ -14,7 +13,6 @@ use Rattle.protocol.specs.declared.TransactionTable.{TransactionTable}
 use Rattle.protocol.specs.declared.RegistrarAnswer.{RegistrarAnswer}
 use Rattle.protocol.specs.declared.Outcome.TheVariants as outcome
 use Rattle.protocol.specs.declared.TransactionState.TheVariants.{Free, Asked}
-use Rattle.protocol.specs.declared.Verdict.TheVariants.{Good}
 use Rattle.protocol.specs.Refusals.{no_fault}
 use Rattle.protocol.specs.Table.{lookup}
 use Rattle.protocol.specs.Registrar.{registrar_message}
@@ -27,7 +25,7 @@ IsRequest k = (k ≡ 0) ⊎ (k ≡ 2) ⊎ (k ≡ 4) ⊎ (k ≡ 7)
 
 -- the request m, in these bytes, of the board b, can be taken
 pub record Opening (t : TransactionTable) (d : RegistrarInput) (bytes : List ℕ) (m : Message) (b : Board) : Type 0 where
-  pub reads : reading_of bytes ≡ read.Clean m
+  pub reads : reading_of bytes ≡ Ok m
   pub version : (m.header.version ≡ 2) ⊎ (m.header.version ≡ 3)
   pub id : TransactionId
   pub has_id : Sixteen bytes m.header.transaction_id id.bytes
@@ -35,7 +33,7 @@ pub record Opening (t : TransactionTable) (d : RegistrarInput) (bytes : List ℕ
   pub sender_nonce : Sixteen bytes m.header.sender_nonce nonce.bytes
   pub protection : m.protection.start.0 ≢ 0
   pub algorithm : m.header.protection_alg.start.0 ≢ 0
-  pub good : d.verdict ≡ Good b
+  pub good : d.verdict ≡ Some b
   pub kind : IsRequest m.body.kind
   pub no_recip_nonce : m.header.recip_nonce.start.0 ≡ 0
   -- the id is not in the table, and a slot is free
@@ -58,5 +56,5 @@ pub record Opened (t : TransactionTable) (kind : ℕ) (b : Board) (i : Transacti
   pub lowest : (p : ℕ) (r : Transaction) → get_elem? t.transactions p ≡ some r → r.state ≡ Free → a.slot.0 ≤ p
 
 pub record RequestRule (t : TransactionTable) (d : RegistrarInput) (bytes : List ℕ) (m : Message) : Type 0 where
-  pub opens : reading_of bytes ≡ read.Clean m → IsRequest m.body.kind → (registrar_message t d bytes).outcome ≡ outcome.Done → (b : Board) × Opening t d bytes m b
+  pub opens : reading_of bytes ≡ Ok m → IsRequest m.body.kind → (registrar_message t d bytes).outcome ≡ outcome.Done → (b : Board) × Opening t d bytes m b
   pub opened : (b : Board) (c : Opening t d bytes m b) → Opened t m.body.kind b c.id c.nonce (registrar_message t d bytes)

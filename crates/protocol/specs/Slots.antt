@@ -1,5 +1,5 @@
 -- Where a transaction stands, what an answer changes (one slot of the table, and no other), and what it sends.
-use Rattle.std.specs.Prelude.{ℕ, ◌≤◌, true, false, ◌≡◌, ◌≢◌, length, replicate}
+use Rattle.std.specs.Prelude.{ℕ, ◌≤◌, true, false, ◌≡◌, ◌≢◌, length, replicate, None}
 use Rattle.std.proofs.Math.Option.{some}
 use Rattle.std.proofs.Math.ListN.{get_elem?}
 use Rattle.protocol.specs.declared.TransactionId.{TransactionId}
@@ -11,7 +11,6 @@ use Rattle.protocol.specs.declared.OutgoingContents.{OutgoingContents}
 use Rattle.protocol.specs.declared.Outgoing.{Outgoing}
 use Rattle.protocol.specs.declared.RegistrarAnswer.{RegistrarAnswer}
 use Rattle.protocol.specs.declared.Outcome.TheVariants as outcome
-use Rattle.protocol.specs.declared.FailureInfo.TheVariants.{NoBit}
 use Rattle.protocol.specs.declared.TransactionState.TheVariants.{Free}
 use Rattle.protocol.specs.Refusals.{no_fault}
 use Rattle.protocol.specs.Outgoing.{silent}
@@ -46,7 +45,7 @@ ours n = record { bytes = n.bytes }
 
 -- a message that carries no status, no hash, no bit and no request number
 abbrev pub bare : OutgoingContents
-bare = record { has_status = false; status = 0; hash = record { bytes = replicate 32 0 }; failure = NoBit; has_number = false; number = 0 }
+bare = record { has_status = false; status = 0; hash = record { bytes = replicate 32 0 }; failure = None; has_number = false; number = 0 }
 
 -- this is sent
 abbrev pub Sends : Outgoing → RegistrarAnswer → Type 0

@@ -1,6 +1,6 @@
 -- Three lists of calls, built from message bytes, on which demand 3 is not idle: one ends Sure with Confirmed, one Declined with Declined,
 -- and one by p10cr, with the request number -1, ends as the first.
-use Rattle.std.specs.Prelude.{ℕ, List, [], ◌∷◌, ◌++◌, Bool, true, false, ◌≡◌, replicate}
+use Rattle.std.specs.Prelude.{ℕ, List, [], ◌∷◌, ◌++◌, Bool, true, false, ◌≡◌, replicate, Some}
 use Rattle.std.proofs.Math.Option.{Option, none, some}
 use Rattle.std.proofs.Math.ListN.{get_elem?}
 use Rattle.protocol.specs.declared.Board.{Board}
@@ -11,7 +11,6 @@ use Rattle.protocol.specs.declared.TransactionState.{TransactionState}
 use Rattle.protocol.specs.declared.EnrolmentState.{EnrolmentState}
 use Rattle.protocol.specs.declared.EnrolmentState.TheVariants as at_board
 use Rattle.protocol.specs.declared.TransactionState.TheVariants as at_registrar
-use Rattle.protocol.specs.declared.Verdict.TheVariants.{Good}
 use Rattle.protocol.specs.Table.{lookup}
 use Rattle.protocol.specs.Run.{Call, Start, ToRegistrar, Issue, ToEndEntity, World, run}
 use Rattle.protocol.specs.Agreement.{Fair}
@@ -112,10 +111,10 @@ pki_conf_bytes = 0x30 ∷ 0x62 ∷ (answer_head 5 4 ++ (0xB3 ∷ 0x02 ∷ 0x05 �
 abbrev pub enrols_by : (kind : ℕ) → (request_bytes response_bytes : List ℕ) → Bool → (cert_conf_bytes : List ℕ) → List Call
 enrols_by kind request_bytes response_bytes accept cert_conf_bytes =
     Start board kind id (nonce 1)
-    ∷ ToRegistrar request_bytes (record { verdict = Good board; nonce = nonce 2 })
+    ∷ ToRegistrar request_bytes (record { verdict = Some board; nonce = nonce 2 })
     ∷ Issue id hash (nonce 3)
     ∷ ToEndEntity 0 response_bytes (record { good = true; accept = accept; hash = hash; nonce = nonce 4 })
-    ∷ ToRegistrar cert_conf_bytes (record { verdict = Good board; nonce = nonce 5 })
+    ∷ ToRegistrar cert_conf_bytes (record { verdict = Some board; nonce = nonce 5 })
     ∷ ToEndEntity 0 pki_conf_bytes (record { good = true; accept = accept; hash = hash; nonce = nonce 6 })
     ∷ []
 

@@ -75,12 +75,8 @@ impl FreshNonce {
     }
 }
 
-// The protection of a message (01's verdict): bad, or good with the board whose key checked.
-#[derive(Clone, Copy)]
-pub enum Verdict {
-    Bad,
-    Good(Board),
-}
+// The protection of a message (01's verdict): good, with the board whose key checked; none where it is bad.
+pub type Verdict = Option<Board>;
 
 // What the host hands to the registrar with a message: its verdict and a fresh nonce.
 #[derive(Clone, Copy)]
@@ -206,11 +202,7 @@ impl Enrolment {
 }
 
 // A PKIFailureInfo bit, or none. Bit 0 is badAlg, so none is a case of its own.
-#[derive(Clone, Copy)]
-pub enum FailureInfo {
-    NoBit,
-    Bit(u8),
-}
+pub type FailureInfo = Option<u8>;
 
 // What only some kinds carry: a status and a certReqId where their flags say so, a hash in a certConf, a bit in an error.
 #[derive(Clone, Copy)]

@@ -1,4 +1,5 @@
 -- A message's step by the slot and the copies that the code makes.
+use Rattle.std.specs.Prelude.{Ok, Err}
 use Prim.Native.Nat.{ℕ, ◌<◌, ◌≤◌}
 use mathlib.Core.List.{List}
 use mathlib.Core.Bool.{Bool, true, false, cond}
@@ -12,8 +13,7 @@ use lib.Dec.{leb, ltb}
 use Rattle.grammar.specs.declared.Message.{Message}
 use Rattle.message.specs.Read.{reading_of}
 use Rattle.message.specs.declared.ReadFault.{ReadFault}
-use Rattle.message.specs.declared.Reading.{Reading}
-use Rattle.message.specs.declared.Reading.TheVariants.{Clean, Refused}
+use Rattle.message.specs.Types.{Reading}
 use Rattle.protocol.specs.declared.TransactionId.{TransactionId}
 use Rattle.protocol.specs.declared.Nonce.{Nonce}
 use Rattle.protocol.specs.declared.FreshNonce.{FreshNonce}
@@ -253,10 +253,10 @@ module _
 -- ## The reading taken apart
 
 module _ (t : TransactionTable) (d : RegistrarInput) (bytes : List ℕ) {x : Reading} (e : x ≡ reading_of bytes) where
-  pub unread : {f : ReadFault} → x ≡ Refused f → {g : ReadFault} → g ≡ fault_of x → refused_reading g t ≡ registrar_message t d bytes
+  pub unread : {f : ReadFault} → x ≡ Err f → {g : ReadFault} → g ≡ fault_of x → refused_reading g t ≡ registrar_message t d bytes
   unfolding registrar_message registrar_read
   unread q eg = rw (eg, ← e, q)
 
-  pub clean : {m : Message} → x ≡ Clean m → registrar_fields t d (fields_of bytes m) ≡ registrar_message t d bytes
+  pub clean : {m : Message} → x ≡ Ok m → registrar_fields t d (fields_of bytes m) ≡ registrar_message t d bytes
   unfolding registrar_message registrar_read
   clean q = rw (← e, q)

@@ -23,8 +23,8 @@ pub(crate) fn is_good(verdict: Verdict) -> bool
     ensures { result ≡ is_good verdict }
 {
     match verdict {
-        Verdict::Good(_) => true,
-        Verdict::Bad => false,
+        Some(_) => true,
+        None => false,
     }
 }
 
@@ -97,8 +97,8 @@ fn for_another(verdict: Verdict, board: Board) -> bool
     ensures { result ≡ not (names verdict board) }
 {
     match verdict {
-        Verdict::Good(b) => b.0 != board.0,
-        Verdict::Bad => true,
+        Some(b) => b.0 != board.0,
+        None => true,
     }
 }
 

@@ -15,7 +15,7 @@ use crate::slots::{find, free_slot, transaction_at, with_at};
 use crate::states::{is_confirmed, is_granted, settled_state};
 use grammar::Message;
 use incoming::rows::{fault_of, head_refusal, status_or_0};
-use message::{Reading, read};
+use message::read;
 use parts::{id_of, nonce_of};
 use protocol::kinds::{CERT_CONF, is_opening_kind};
 use protocol::{
@@ -27,8 +27,8 @@ fn board_named(verdict: Verdict) -> Board
     ensures { result ≡ board_named verdict }
 {
     match verdict {
-        Verdict::Good(board) => board,
-        Verdict::Bad => Board(0),
+        Some(board) => board,
+        None => Board(0),
     }
 }
 
@@ -166,7 +166,7 @@ pub fn message(table: TransactionTable, bytes: &[u8], input: RegistrarInput) -> 
     ensures { result ≡ registrar_message table input bytes.now }
 {
     let reading = read(bytes);
-    let Reading::Clean(m) = reading else {
+    let Ok(m) = reading else {
         return refused_reading(fault_of(reading), table);
     };
     step(table, bytes, m, input)

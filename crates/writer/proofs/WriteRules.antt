@@ -1,4 +1,5 @@
 -- What the call does, in the paper's words.
+use Rattle.std.specs.Prelude.{Ok, Err}
 use Prim.Native.Nat.{ℕ, ◌+◌, ◌≤◌}
 use mathlib.Core.List.{List, ◌++◌}
 use mathlib.Core.Bool.{Bool, true, false, cond, true≢false}
@@ -14,19 +15,18 @@ use Rattle.encoding.specs.WriteRules.{RefusalRules}
 use Rattle.encoding.proofs.Refusals.{refusals}
 use Rattle.given.specs.declared.GivenSpans.{GivenSpans}
 use Rattle.given.specs.Spans.{given_of, spans_inside}
-use Rattle.writer.specs.declared.Written.{Written}
-use Rattle.writer.specs.declared.Written.TheVariants.{Bytes, Refused}
+use Rattle.writer.specs.Types.{Written}
 use Rattle.writer.specs.Write.{write_refusal, write_answer, buffer_after}
 use Rattle.writer.specs.WriteRules.{refusal_in, WriteRules, Writes}
 
 -- the two constructors are apart
 abbrev size_in : Written → ℕ
-size_in (Bytes n) = n
-size_in (Refused k) = 0
+size_in (Ok n) = n
+size_in (Err k) = 0
 
 abbrev is_bytes : Written → Bool
-is_bytes (Bytes n) = true
-is_bytes (Refused k) = false
+is_bytes (Ok n) = true
+is_bytes (Err k) = false
 
 module _ (src : List ℕ) (g : GivenSpans) (o : Outgoing) (buf : List ℕ) where
   abbrev message : List ℕ
@@ -36,7 +36,7 @@ module _ (src : List ℕ) (g : GivenSpans) (o : Outgoing) (buf : List ℕ) where
   rules = refusals (spans_inside src g) (given_of src g) o (length buf)
 
   by : (b : Bool) → eqb (write_refusal src g o buf) 0 ≡ b
-      → WriteRules src g o buf (cond b (Bytes (length message)) (Refused (write_refusal src g o buf))) (cond b (sets buf 0 message) buf)
+      → WriteRules src g o buf (cond b (Ok (length message)) (Err (write_refusal src g o buf))) (cond b (sets buf 0 message) buf)
   by true e =
       let z = eqb-true (write_refusal src g o buf) 0 e in
       let room : length message ≤ length buf = (rules.written.0 z).1 in

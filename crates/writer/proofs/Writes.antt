@@ -1,4 +1,5 @@
 -- The call's four answers.
+use Rattle.std.specs.Prelude.{Ok, Err}
 use Prim.Native.Nat.{ℕ, ◌+◌, ◌<◌, ◌≤◌}
 use mathlib.Core.List.{List}
 use mathlib.Core.Bool.{Bool, true, false, ◌&&◌, ◌||◌}
@@ -17,7 +18,6 @@ use Rattle.encoding.specs.Write.{refusal_of}
 use Rattle.encoding.proofs.WrittenKinds.{Kind, kind_of_lem}
 use Rattle.encoding.proofs.WrittenKinds.Kind.{ir, ip, cr, cp, p10cr, kur, kup, pkiconf, error, certconf}
 use Rattle.given.specs.declared.GivenSpans.{GivenSpans}
-use Rattle.writer.specs.declared.Written.TheVariants.{Bytes, Refused}
 use Rattle.writer.specs.Puts.{Puts}
 use Rattle.writer.specs.Sizes.{size16, head_size, Size}
 use Rattle.writer.specs.Code.{message_content}
@@ -54,23 +54,23 @@ module _ (src : List ℕ) (g : GivenSpans) (o : Outgoing) (buf : List ℕ) where
   fitting = spans_inside src g && fits (given_of src g) o
 
   -- refused, and the buffer as before
-  refused : (k : ℕ) → write_refusal src g o buf ≡ k → eqb k 0 ≡ false → (Refused k ≡ write_answer src g o buf) × (buf ≡ buffer_after src g o buf)
+  refused : (k : ℕ) → write_refusal src g o buf ≡ k → eqb k 0 ≡ false → (Err k ≡ write_answer src g o buf) × (buf ≡ buffer_after src g o buf)
   unfolding write_answer buffer_after
   refused k e z = (sym (rw (e, z)), sym (rw (e, z)))
 
   module _ {n : ℕ} (size : Size n (encode (given_of src g) o)) where
-    pub over : max_message < n → (Refused 34 ≡ write_answer src g o buf) × (buf ≡ buffer_after src g o buf)
+    pub over : max_message < n → (Err 34 ≡ write_answer src g o buf) × (buf ≡ buffer_after src g o buf)
     unfolding refusal_of
     over h = refused 34 (rw (lt-ltb max_message (length (encode (given_of src g) o)) (omega (arith, size.is)))) refl
 
-    pub short : n ≤ max_message → length buf < n → (Refused 35 ≡ write_answer src g o buf) × (buf ≡ buffer_after src g o buf)
+    pub short : n ≤ max_message → length buf < n → (Err 35 ≡ write_answer src g o buf) × (buf ≡ buffer_after src g o buf)
     unfolding refusal_of
     short h k =
         refused 35
         (rw (le-ltb max_message (length (encode (given_of src g) o)) (omega (arith, size.is)), lt-ltb (length buf) (length (encode (given_of src g) o)) (omega (arith, size.is))))
         refl
 
-    pub unfit : n ≤ max_message → n ≤ length buf → fitting ≡ false → (Refused 36 ≡ write_answer src g o buf) × (buf ≡ buffer_after src g o buf)
+    pub unfit : n ≤ max_message → n ≤ length buf → fitting ≡ false → (Err 36 ≡ write_answer src g o buf) × (buf ≡ buffer_after src g o buf)
     unfolding refusal_of
     unfit h k e =
         refused 36
@@ -84,10 +84,10 @@ module _ (src : List ℕ) (g : GivenSpans) (o : Outgoing) (buf : List ℕ) where
 
     pub written : {r : ℕ} {after : List ℕ} → n ≤ max_message → n ≤ length buf → fitting ≡ true
         → (o.kind < 96 → Puts 0 r (encode (given_of src g) o) buf after)
-        → (Bytes n ≡ write_answer src g o buf) × (after ≡ buffer_after src g o buf)
+        → (Ok n ≡ write_answer src g o buf) × (after ≡ buffer_after src g o buf)
     unfolding write_answer buffer_after
     written {r} {after} h k e p =
         let z = no_refusal h k e in
         let whole : n ≡ length (encode (given_of src g) o) = size.is ∙ omega (arith, size.is) in
         let q = (p (fit_low (given_of src g) o (and_right (spans_inside src g) _ e))).put (omega arith) (omega arith) in
-        (ap Bytes whole ∙ sym (rw z), q.is ∙ sym (rw z))
+        (ap Ok whole ∙ sym (rw z), q.is ∙ sym (rw z))

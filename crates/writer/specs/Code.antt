@@ -1,7 +1,7 @@
 -- Definitions that only follow the code: a reader of the paper need not look at them.
 use Rattle.std.specs.Prelude.{ℕ, List, [], ◌++◌, cond, ◌||◌, ltb, leb, eqb}
 use Rattle.std.proofs.Math.Option.{Option, none}
-use Rattle.protocol.specs.declared.FailureInfo.{FailureInfo}
+use Rattle.protocol.specs.Types.{FailureInfo}
 use Rattle.protocol.specs.declared.OutgoingContents.{OutgoingContents}
 use Rattle.protocol.specs.declared.Outgoing.{Outgoing}
 use Rattle.protocol.specs.Message.{cert_conf, error_kind}

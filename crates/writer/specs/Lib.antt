@@ -1,3 +1,4 @@
+pub mod Types
 pub mod Puts
 pub mod Sizes
 pub mod Code

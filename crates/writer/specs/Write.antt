@@ -1,12 +1,11 @@
 -- The call: its answer, and the buffer after it.
-use Rattle.std.specs.Prelude.{ℕ, List, cond, length, eqb}
+use Rattle.std.specs.Prelude.{ℕ, List, cond, length, eqb, Ok, Err}
 use Rattle.std.proofs.lemmas.List.Edits.{sets}
 use Rattle.protocol.specs.declared.Outgoing.{Outgoing}
 use Rattle.encoding.specs.Message.{encode}
 use Rattle.encoding.specs.Write.{refusal_of}
 use Rattle.given.specs.declared.GivenSpans.{GivenSpans}
-use Rattle.writer.specs.declared.Written.{Written}
-use Rattle.writer.specs.declared.Written.TheVariants.{Bytes, Refused}
+use Rattle.writer.specs.Types.{Written}
 use Rattle.given.specs.Spans.{given_of, spans_inside}
 
 -- the number of the refusal; 0: none
@@ -16,7 +15,7 @@ write_refusal src g o buf = refusal_of (spans_inside src g) (given_of src g) o (
 -- how many bytes are written, or the refusal
 unfoldable pub write_answer : (src : List ℕ) → GivenSpans → Outgoing → (buf : List ℕ) → Written
 write_answer src g o buf =
-    cond (eqb (write_refusal src g o buf) 0) (Bytes (length (encode (given_of src g) o))) (Refused (write_refusal src g o buf))
+    cond (eqb (write_refusal src g o buf) 0) (Ok (length (encode (given_of src g) o))) (Err (write_refusal src g o buf))
 
 -- "the buffer then as before; otherwise only the result's bytes change"
 unfoldable pub buffer_after : (src : List ℕ) → GivenSpans → Outgoing → (buf : List ℕ) → List ℕ

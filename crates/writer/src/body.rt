@@ -51,8 +51,8 @@ fn put_failure(buf: &mut [u8], at: usize, f: FailureInfo) -> usize
     ensures { Puts at result (optional 0x03 (failure_bits f)) buf.old buf.new }
 {
     match f {
-        FailureInfo::NoBit => at,
-        FailureInfo::Bit(bit) => put_bit(buf, at, bit),
+        None => at,
+        Some(bit) => put_bit(buf, at, bit),
     }
 }
 
@@ -60,8 +60,8 @@ fn failure_size(f: FailureInfo) -> u16
     ensures { Size result (optional 0x03 (failure_bits f)) }
 {
     match f {
-        FailureInfo::NoBit => 0,
-        FailureInfo::Bit(bit) => around(bit_content_size(bit)),
+        None => 0,
+        Some(bit) => around(bit_content_size(bit)),
     }
 }
 
@@ -121,7 +121,7 @@ fn response_content_size(src: &[u8], certificate: Span, number: u32, status: u32
     ensures { Size result (response_content number status (optional_part src.now certificate)) }
 {
     let n = integer_size(number);
-    let s = status_size(status, FailureInfo::NoBit);
+    let s = status_size(status, None);
     sum(n, sum(s, key_pair_size(src, certificate)))
 }
 
@@ -137,7 +137,7 @@ fn put_response_content(
     ensures { Puts at result (response_content number status (optional_part src.now certificate)) buf.old buf.new }
 {
     let a = put_integer(buf, at, number);
-    let b = put_status(buf, a, status, FailureInfo::NoBit);
+    let b = put_status(buf, a, status, None);
     put_key_pair(buf, b, src, certificate)
 }
 
@@ -176,7 +176,7 @@ fn put_other_status(buf: &mut [u8], at: usize, status: u32) -> usize
     if is_left_out(status) {
         return at;
     }
-    put_status(buf, at, status, FailureInfo::NoBit)
+    put_status(buf, at, status, None)
 }
 
 fn other_status_size(status: u32) -> u16
@@ -185,7 +185,7 @@ fn other_status_size(status: u32) -> u16
     if is_left_out(status) {
         return 0;
     }
-    status_size(status, FailureInfo::NoBit)
+    status_size(status, None)
 }
 
 fn confirmation_content_size(hash: Hash, number: u32, status: u32) -> u16

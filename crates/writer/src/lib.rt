@@ -26,11 +26,7 @@ use message::MAX_MESSAGE;
 use protocol::Outgoing;
 
 // So many bytes are written, or the call is refused by this number.
-#[derive(Clone, Copy)]
-pub enum Written {
-    Bytes(usize),
-    Refused(u8),
-}
+pub type Written = Result<usize, u8>;
 
 // The tag of a body. Of a kind above 95 the sum would not fit, and nothing is asked: no such kind is written.
 fn body_tag(kind: u8) -> u8
@@ -81,14 +77,14 @@ pub fn write(o: Outgoing, g: GivenSpans, src: &[u8], buf: &mut [u8]) -> Written
 {
     let n = wide(around(message_content_size(src, g, o)));
     if MAX_MESSAGE < n {
-        return Written::Refused(34);
+        return Err(34);
     }
     if buf.len() < n {
-        return Written::Refused(35);
+        return Err(35);
     }
     if all_fit(src, g, o) {
         put_message(buf, src, g, o);
-        return Written::Bytes(n);
+        return Ok(n);
     }
-    Written::Refused(36)
+    Err(36)
 }

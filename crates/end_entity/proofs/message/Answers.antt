@@ -19,4 +19,4 @@ returns c =
     let t = c in
     let r = t in
     let s = r in
-    c.checked.ensures ∙ sym (answer_at s.args.enrolment s.args.input s.args.bytes.now _ (told r.read-reading.ensures t.in-Clean.is))
+    c.checked.ensures ∙ sym (answer_at s.args.enrolment s.args.input s.args.bytes.now _ (told r.read-reading.ensures t.in-Ok.is))

@@ -3,21 +3,21 @@ use Rattle.der.proofs.Auto.{tests, told}
 use Rattle.fields.specs.Fields.{read_answer, read_fields}
 use Rattle.fields.proofs.read_into.Goals as goal
 
-pub returns-in-Clean : goal.returns-in-Clean
+pub returns-in-Ok : goal.returns-in-Ok
 unfolding read_answer read_fields
-returns-in-Clean c =
+returns-in-Ok c =
     let stored = c in
     let matched = stored in
-    let clean = told matched.read-r.ensures matched.in-Clean.is in
+    let clean = told matched.read-r.ensures matched.in-Ok.is in
     (search (tests, clean), search (tests, stored.put_message.ensures, clean))
 
-pub returns-in-Refused : goal.returns-in-Refused
+pub returns-in-Err : goal.returns-in-Err
 unfolding read_answer read_fields
-returns-in-Refused c =
+returns-in-Err c =
     let rule = c in
     let offset = rule in
     let matched = offset in
-    let refused = told matched.read-r.ensures matched.in-Refused.is in
+    let refused = told matched.read-r.ensures matched.in-Err.is in
     (search (tests, c.widened.ensures, refused), search (tests, rule.put_small.ensures, offset.put_size.ensures, refused))
 
 pub returns-then-fields-lt-FIELDS : goal.returns-then-fields-lt-FIELDS

@@ -1,10 +1,10 @@
 use Rattle.der.proofs.Auto.{tests}
 use Rattle.incoming.proofs.rows.fault_of.Goals as goal
 
-pub returns-in-Refused : goal.returns-in-Refused
-returns-in-Refused c =
+pub returns-in-Err : goal.returns-in-Err
+returns-in-Err c =
     search tests
 
-pub returns-in-Clean : goal.returns-in-Clean
-returns-in-Clean c =
-    search (tests, c.in-Clean.is)
+pub returns-in-Ok : goal.returns-in-Ok
+returns-in-Ok c =
+    search (tests, c.in-Ok.is)

@@ -1,10 +1,10 @@
 use Rattle.der.proofs.Auto.{tests}
 use Rattle.registrar.proofs.rows.for_another.Goals as goal
 
-pub returns-in-Good : goal.returns-in-Good
-returns-in-Good c =
-    search (tests, c.in-Good.is)
+pub returns-in-Some : goal.returns-in-Some
+returns-in-Some c =
+    search (tests, c.in-Some.is)
 
-pub returns-in-Bad : goal.returns-in-Bad
-returns-in-Bad c =
+pub returns-in-None : goal.returns-in-None
+returns-in-None c =
     search tests

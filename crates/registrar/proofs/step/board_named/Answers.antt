@@ -2,10 +2,10 @@
 use Rattle.der.proofs.Auto.{tests}
 use Rattle.registrar.proofs.step.board_named.Goals as goal
 
-pub returns-in-Good : goal.returns-in-Good
-returns-in-Good c =
+pub returns-in-Some : goal.returns-in-Some
+returns-in-Some c =
     search tests
 
-pub returns-in-Bad : goal.returns-in-Bad
-returns-in-Bad c =
-    search (tests, c.in-Bad.is)
+pub returns-in-None : goal.returns-in-None
+returns-in-None c =
+    search (tests, c.in-None.is)

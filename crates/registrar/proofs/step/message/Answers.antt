@@ -10,4 +10,4 @@ returns-in_default c =
 
 pub returns : goal.returns
 returns c =
-    c.step.ensures ∙ clean c.args.table c.args.input _ c.read-reading.ensures c.in-Clean.is
+    c.step.ensures ∙ clean c.args.table c.args.input _ c.read-reading.ensures c.in-Ok.is

@@ -3,12 +3,12 @@ use Rattle.writer.proofs.Sizes.{size_none, size-around}
 use Rattle.encoding.specs.Element.{optional}
 use Rattle.writer.proofs.body.failure_size.Goals as goal
 
-pub returns-in-NoBit : goal.returns-in-NoBit
+pub returns-in-None : goal.returns-in-None
 unfolding optional
-returns-in-NoBit c =
-    rw c.in-NoBit.is size_none
+returns-in-None c =
+    rw c.in-None.is size_none
 
-pub returns-in-Bit : goal.returns-in-Bit
+pub returns-in-Some : goal.returns-in-Some
 unfolding optional
-returns-in-Bit c =
-    rw c.in-Bit.is (size-around _ c.bit_content_size.ensures c.around.ensures)
+returns-in-Some c =
+    rw c.in-Some.is (size-around _ c.bit_content_size.ensures c.around.ensures)

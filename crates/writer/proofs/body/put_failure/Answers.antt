@@ -3,12 +3,12 @@ use Rattle.writer.proofs.Puts.{nothing}
 use Rattle.encoding.specs.Element.{optional}
 use Rattle.writer.proofs.body.put_failure.Goals as goal
 
-pub returns-in-NoBit : goal.returns-in-NoBit
+pub returns-in-None : goal.returns-in-None
 unfolding optional
-returns-in-NoBit c =
-    rw c.in-NoBit.is (nothing _ _)
+returns-in-None c =
+    rw c.in-None.is (nothing _ _)
 
-pub returns-in-Bit : goal.returns-in-Bit
+pub returns-in-Some : goal.returns-in-Some
 unfolding optional
-returns-in-Bit c =
-    rw c.in-Bit.is c.put_bit.ensures
+returns-in-Some c =
+    rw c.in-Some.is c.put_bit.ensures

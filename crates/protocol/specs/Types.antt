@@ -1,0 +1,11 @@
+-- Types that the definitions name as src/ does: antt has no names for aliases.
+use Rattle.std.specs.Prelude.{ℕ, Option}
+use Rattle.protocol.specs.declared.Board.{Board}
+
+-- the protection of a message: the board whose key checked, or none where it is bad
+abbrev pub Verdict : Type 0
+Verdict = Option Board
+
+-- a PKIFailureInfo bit, or none
+abbrev pub FailureInfo : Type 0
+FailureInfo = Option ℕ
