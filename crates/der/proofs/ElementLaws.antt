@@ -1,4 +1,5 @@
 -- Laws of a run of elements: what stands at the loop's place, and that a fault lies inside the bytes that were checked.
+use Rattle.std.specs.Prelude.{Ok, Err}
 use Prim.Native.Nat.{ℕ, zero, suc, ◌+◌, ◌-◌, ◌<◌, ◌≤◌}
 use mathlib.Core.Path.{◌≡◌, refl, sym, ◌∙◌, ap, subst}
 use mathlib.Core.List.{List, [], ◌∷◌}
@@ -12,12 +13,9 @@ use lib.ListN.{length, take, drop, length-drop, length-take, drop_of_length-le}
 use lib.Seq.{drop-drop, take_all, take-nil}
 use lib.Dec.{eqb, lit≤, T}
 use Rattle.der.specs.declared.Offset.{Offset}
-use Rattle.der.specs.declared.head.Head.{Head}
-use Rattle.der.specs.declared.head.Head.TheVariants.{Bad, Whole}
+use Rattle.der.specs.Types.{Head, Check, fault_by}
 use Rattle.der.specs.declared.element.Element.{Element}
 use Rattle.der.specs.declared.element.Element.TheVariants.{Primitive, Constructed, Faulty}
-use Rattle.der.specs.declared.element.Check.{Check}
-use Rattle.der.specs.declared.element.Check.TheVariants.{Sound, Fault}
 use Rattle.der.specs.Head.{head_of}
 use Rattle.der.specs.Content.{content_ok}
 use Rattle.der.specs.Element.{constructed, form_ok, judge, element_of, size_of, and_then, with_content, each_element, content_at, check_at}
@@ -37,12 +35,12 @@ deep false d e = absurd (subst T (sym e) tt)
 
 judge_in : (d : ℕ) (s : List ℕ) (h : Head) → HeadIn (length s) h → ElementIn d (length s) (judge d s h)
 unfolding judge HeadIn ElementIn
-judge_in d s (Bad rule) w = tt
-judge_in d s (Whole tag start len) w =
+judge_in d s (Err rule) w = tt
+judge_in d s (Ok hd) w =
     let P : Element → Type 0 = ElementIn d (length s) in
-    cond_both P (form_ok tag && not (eqb d 0))
-    (λ e. cond-case P (constructed tag) {x = Constructed start len} (w.0, w.2, deep (form_ok tag) d e)
-    (cond-case P (content_ok tag (take len (drop start s))) {x = Primitive (start + len)} {y = Faulty 4} (omega arith, w.2) tt)) (λ e. tt)
+    cond_both P (form_ok hd.tag && not (eqb d 0))
+    (λ e. cond-case P (constructed hd.tag) {x = Constructed hd.start hd.len} (w.0, w.2, deep (form_ok hd.tag) d e)
+    (cond-case P (content_ok hd.tag (take hd.len (drop hd.start s))) {x = Primitive (hd.start + hd.len)} {y = Faulty 4} (omega arith, w.2) tt)) (λ e. tt)
 
 pub element_in : (d : ℕ) (s : List ℕ) → ElementIn d (length s) (element_of d s)
 unfolding element_of
@@ -80,8 +78,8 @@ content-check (suc d) b s h = ap (λ (j : ℕ). each_element (content_at j) j 0 
 
 pub nothing-more : (d b : ℕ) (v : Check) → and_then v (check_at d b []) ≡ v
 unfolding check_at each_element
-nothing-more d b Sound = refl
-nothing-more d b (Fault at rule) = refl
+nothing-more d b (Ok _) = refl
+nothing-more d b (Err ft) = refl
 
 -- where the loop is at i, with what the element there was found to be; `whole` is the check of all
 module _ (d : ℕ) (s : List ℕ) (b i : ℕ) {whole : Check} {r : Element} (is : r ≡ element_of d (drop i s)) (here : i < length s) (so_far : whole ≡ check_at d (b + i) (drop i s)) where
@@ -96,7 +94,7 @@ module _ (d : ℕ) (s : List ℕ) (b i : ℕ) {whole : Check} {r : Element} (is 
   unfolding ElementIn
   constructed_in e = let w = subst (ElementIn d (length (drop i s))) (sym is ∙ e) (element_in d (drop i s)) in omega (arith, length-drop i s)
 
-  pub at_faulty : {rule : ℕ} → r ≡ Faulty rule → whole ≡ Fault (record { 0 = b + i }) rule
+  pub at_faulty : {rule : ℕ} → r ≡ Faulty rule → whole ≡ fault_by (record { 0 = b + i }) rule
   at_faulty e = so_far ∙ first-is d (b + i) (drop i s) (sym is ∙ e) left (lit≤ tt)
 
   at-primitive : {k : ℕ} → r ≡ Primitive k → whole ≡ check_at d (b + (i + k)) (drop (i + k) s)
@@ -114,10 +112,10 @@ module _ (d : ℕ) (s : List ℕ) (b i : ℕ) {whole : Check} {r : Element} (is 
     called : whole ≡ and_then inner (check_at d (b + (i + start + len)) (drop (i + start + len) s))
     called = at-constructed e ∙ sym (ap (λ (v : Check). and_then v (check_at d (b + (i + start + len)) (drop (i + start + len) s))) (simp add-sub_cancel_left at calls))
 
-    at_sound : inner ≡ Sound → whole ≡ check_at d (b + (i + start + len)) (drop (i + start + len) s)
+    at_sound : inner ≡ (Ok tt) → whole ≡ check_at d (b + (i + start + len)) (drop (i + start + len) s)
     at_sound f = called ∙ ap (λ (v : Check). and_then v (check_at d (b + (i + start + len)) (drop (i + start + len) s))) f
 
-    at-fault : {at : Offset} {rule : ℕ} → inner ≡ Fault at rule → inner ≡ whole
+    at-fault : {at : Offset} {rule : ℕ} → inner ≡ fault_by at rule → inner ≡ whole
     at-fault f = f ∙ sym (called ∙ ap (λ (v : Check). and_then v (check_at d (b + (i + start + len)) (drop (i + start + len) s))) f)
 
 -- ---- the same by the element's kind, a number
@@ -149,13 +147,13 @@ module _ {d : ℕ} {s : List ℕ} {b i start len k : ℕ} {whole : Check} (f : F
       holds_in = omega (arith, constructed_in d s b i (sym f.is) f.here f.so_far (as_constructed n))
 
       module _ {inner : Check} (calls : inner ≡ check_at (d - 1) (b + (i + start)) (take (i + start + len - (i + start)) (drop (i + start) s))) where
-        pub goes_past : inner ≡ Sound → whole ≡ check_at d (b + (i + start + len)) (drop (i + start + len) s)
+        pub goes_past : inner ≡ (Ok tt) → whole ≡ check_at d (b + (i + start + len)) (drop (i + start + len) s)
         goes_past e = at_sound d s b i (sym f.is) f.here f.so_far (as_constructed n) calls e
 
-        pub hands_on : {at : Offset} {rule : ℕ} → inner ≡ Fault at rule → inner ≡ whole
+        pub hands_on : {at : Offset} {rule : ℕ} → inner ≡ fault_by at rule → inner ≡ whole
         hands_on e = at-fault d s b i (sym f.is) f.here f.so_far (as_constructed n) calls e
 
-pub check-end : (d b : ℕ) (s : List ℕ) (i : ℕ) {whole : Check} → length s ≤ i → whole ≡ check_at d (b + i) (drop i s) → Sound ≡ whole
+pub check-end : (d b : ℕ) (s : List ℕ) (i : ℕ) {whole : Check} → length s ≤ i → whole ≡ check_at d (b + i) (drop i s) → (Ok tt) ≡ whole
 unfolding check_at each_element
 check-end d b s i h e = sym (e ∙ rw (drop_of_length-le s h))
 
@@ -174,22 +172,22 @@ up_to m i end = sym (drop-take i end m)
 -- a call's answer is its end or above
 pub answer_above : (end : ℕ) (v : Check) {r : ℕ} → end < faults → r ≡ answer_of end v → end ≤ r
 unfolding answer_of
-answer_above end Sound h e = omega arith
-answer_above end (Fault at rule) h e = omega arith
+answer_above end (Ok _) h e = omega arith
+answer_above end (Err ft) h e = omega arith
 
 -- ---- a fault lies inside the bytes that were checked
 unfoldable pub FaultIn : ℕ → ℕ → Check → Type 0
-FaultIn b n Sound = Unit {0}
-FaultIn b n (Fault at rule) = (b ≤ at.0) × (at.0 < b + n)
+FaultIn b n (Ok _) = Unit {0}
+FaultIn b n (Err ft) = (b ≤ ft.at.0) × (ft.at.0 < b + n)
 
 wider : (b n b' n' : ℕ) (v : Check) → FaultIn b' n' v → b ≤ b' → b' + n' ≤ b + n → FaultIn b n v
 unfolding FaultIn
-wider b n b' n' Sound w h k = tt
-wider b n b' n' (Fault at rule) w h k = omega arith
+wider b n b' n' (Ok _) w h k = tt
+wider b n b' n' (Err ft) w h k = omega arith
 
 both_in : (b n : ℕ) (v next : Check) → FaultIn b n v → FaultIn b n next → FaultIn b n (and_then v next)
-both_in b n Sound next w u = u
-both_in b n (Fault at rule) next w u = w
+both_in b n (Ok _) next w u = u
+both_in b n (Err ft) next w u = w
 
 with_content_in : (inner : ℕ → List ℕ → Check) → ((b : ℕ) (s : List ℕ) → FaultIn b (length s) (inner b s)) → (d b : ℕ) (s : List ℕ) (o : Element) → 0 < length s → ElementIn d (length s) o → FaultIn b (length s) (with_content inner b s o)
 unfolding FaultIn ElementIn
@@ -213,7 +211,7 @@ unfolding content_at FaultIn
 content_in_lem zero b s = tt
 content_in_lem (suc d) b s = run_in (content_at d) (content_in_lem d) d 0 b s
 
-pub fault_in : (d b : ℕ) (s : List ℕ) {at : Offset} {rule : ℕ} → check_at d b s ≡ Fault at rule → (b ≤ at.0) × (at.0 < b + length s)
+pub fault_in : (d b : ℕ) (s : List ℕ) {at : Offset} {rule : ℕ} → check_at d b s ≡ fault_by at rule → (b ≤ at.0) × (at.0 < b + length s)
 unfolding check_at FaultIn
 fault_in d b s e = subst (FaultIn b (length s)) e (run_in (content_at d) (content_in_lem d) d 0 b s)
 

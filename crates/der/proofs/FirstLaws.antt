@@ -1,4 +1,5 @@
 -- The check of elements one after another: what the first one's number says of the check of all.
+use Rattle.std.specs.Prelude.{Ok, Err}
 use Prim.Native.Nat.{ℕ, zero, suc, ◌+◌, ◌-◌, ◌/◌, ◌%◌, ◌<◌, ◌≤◌}
 use mathlib.Core.Path.{◌≡◌, refl, sym, ◌∙◌, ap, subst}
 use mathlib.Core.List.{List, [], ◌∷◌}
@@ -9,12 +10,9 @@ use native.Mathlib.Omega.{arith}
 use lib.ListN.{length, take, drop, length-drop, drop_of_length-le}
 use lib.Seq.{take-take, length-take-le, drop-drop, get_or-drop}
 use lib.Dec.{eqb, lit≤}
-use Rattle.der.specs.declared.head.Head.{Head}
-use Rattle.der.specs.declared.head.Head.TheVariants.{Bad, Whole}
+use Rattle.der.specs.Types.{Head, Check, fault_by, whole_head}
 use Rattle.der.specs.declared.element.Element.{Element}
 use Rattle.der.specs.declared.element.Element.TheVariants.{Primitive, Constructed, Faulty}
-use Rattle.der.specs.declared.element.Check.{Check}
-use Rattle.der.specs.declared.element.Check.TheVariants.{Sound, Fault}
 use Rattle.der.specs.Head.{head_of}
 use Rattle.der.specs.Content.{content_ok}
 use Rattle.der.specs.Element.{max_depth, constructed, form_ok, judge, element_of, size_of, and_then, with_content, each_element, content_at, check_at, check, fills_to, fills}
@@ -27,13 +25,13 @@ use Rattle.der.proofs.RuleLaws.{HeadRule, head_rule, answer_sound, answer-fault}
 -- ## The same bytes k further on
 
 moved : ℕ → Check → Check
-moved k Sound = Sound
-moved k (Fault at rule) = Fault (record { 0 = k + at.0 }) rule
+moved k (Ok _) = (Ok tt)
+moved k (Err ft) = fault_by (record { 0 = k + ft.at.0 }) ft.rule
 
 both_moved : (k : ℕ) (v next : Check) → and_then (moved k v) (moved k next) ≡ moved k (and_then v next)
 unfolding moved
-both_moved k Sound next = refl
-both_moved k (Fault at rule) next = refl
+both_moved k (Ok _) next = refl
+both_moved k (Err ft) next = refl
 
 abbrev Moves : ℕ → (ℕ → List ℕ → Check) → Type 0
 Moves k inner = (b : ℕ) (s : List ℕ) → inner (k + b) s ≡ moved k (inner b s)
@@ -66,7 +64,7 @@ check-moved d k s = ap (λ (j : ℕ). each_element (content_at d) d 0 j s) (sym 
 
 -- ## The first element by itself, and the rest
 
-module _ (s : List ℕ) {tag start len : ℕ} (bytes : Bytes s) (e : head_of s ≡ Whole tag start len) where
+module _ (s : List ℕ) {tag start len : ℕ} (bytes : Bytes s) (e : head_of s ≡ whole_head tag start len) where
   within : (2 ≤ start) × (start ≤ 4) × (start + len ≤ length s)
   within = whole_in s refl e
 
@@ -76,17 +74,17 @@ module _ (s : List ℕ) {tag start len : ℕ} (bytes : Bytes s) (e : head_of s �
   pub cut_length : length (take (start + len) s) ≡ start + len
   cut_length = length-take-le (start + len) s within.2
 
-  head_cut : head_of (take (start + len) s) ≡ Whole tag start len
+  head_cut : head_of (take (start + len) s) ≡ whole_head tag start len
   head_cut = same_end s (take (start + len) s) bytes e (take-take start (start + len) s (omega arith)) (omega (arith, cut_length))
 
   content_cut : take len (drop start (take (start + len) s)) ≡ take len (drop start s)
   content_cut = ap (take len) (drop-take start (start + len) s) ∙ take-take len (start + len - start) (drop start s) (omega arith)
 
-  element_cut : (d : ℕ) → element_of d (take (start + len) s) ≡ judge d s (Whole tag start len)
+  element_cut : (d : ℕ) → element_of d (take (start + len) s) ≡ judge d s (whole_head tag start len)
   unfolding element_of judge
   element_cut d = ap (judge d (take (start + len) s)) head_cut ∙ rw content_cut refl
 
-  element-whole : (d : ℕ) → element_of d s ≡ judge d s (Whole tag start len)
+  element-whole : (d : ℕ) → element_of d s ≡ judge d s (whole_head tag start len)
   unfolding element_of
   element-whole d = ap (judge d s) e
 
@@ -131,28 +129,28 @@ abbrev Goes : ℕ → List ℕ → ℕ → Type 0
 Goes b s r = (0 < r) × (r ≤ length s) × (check_at max_depth b s ≡ check_at max_depth (b + r) (drop r s))
 
 abbrev Stops : ℕ → List ℕ → ℕ → Type 0
-Stops b s r = ((r - faults) / 8 < length s) × (check_at max_depth b s ≡ Fault (record { 0 = b + (r - faults) / 8 }) ((r - faults) % 8))
+Stops b s r = ((r - faults) / 8 < length s) × (check_at max_depth b s ≡ fault_by (record { 0 = b + (r - faults) / 8 }) ((r - faults) % 8))
 
 goes : (b : ℕ) (s : List ℕ) → Bytes s → (h : Head) → head_of s ≡ h → {r : ℕ} → r ≡ first_of s h → r < faults → Goes b s r
 unfolding first_of answer_of moved
-goes b s bytes (Bad rule) e is low = absurd (omega arith)
-goes b s bytes (Whole tag start len) e {r} is low =
-    let sound = answer_sound (start + len) max_depth 0 (take (start + len) s) is low in
-    let size : r ≡ start + len = is ∙ ap (answer_of (start + len)) sound in
+goes b s bytes (Err rule) e is low = absurd (omega arith)
+goes b s bytes (Ok hd) e {r} is low =
+    let sound = answer_sound (hd.start + hd.len) max_depth 0 (take (hd.start + hd.len) s) is low in
+    let size : r ≡ hd.start + hd.len = is ∙ ap (answer_of (hd.start + hd.len)) sound in
     let w = within s bytes e in
-    rw size (omega arith, w.2, split s bytes e max_depth b ∙ ap (λ (v : Check). and_then v (check_at max_depth (b + (start + len)) (drop (start + len) s))) (check-moved max_depth b (take (start + len) s) ∙ ap (moved b) sound))
+    rw size (omega arith, w.2, split s bytes e max_depth b ∙ ap (λ (v : Check). and_then v (check_at max_depth (b + (hd.start + hd.len)) (drop (hd.start + hd.len) s))) (check-moved max_depth b (take (hd.start + hd.len) s) ∙ ap (moved b) sound))
 
 stops : (b : ℕ) (s : List ℕ) → Bytes s → 0 < length s → (h : Head) → head_of s ≡ h → {r : ℕ} → r ≡ first_of s h → faults ≤ r → Stops b s r
 unfolding first_of moved element_of judge HeadRule
-stops b s bytes some (Bad rule) e {r} is high =
+stops b s bytes some (Err rule) e {r} is high =
     let small = subst HeadRule e (head_rule s) in
     let u = unpacked rule 0 {p = r - faults} (omega arith) (omega arith) in
     rw (u.0, u.1) (some, first-is max_depth b s {o = Faulty rule} (ap (judge max_depth s) e) some (lit≤ tt) ∙ rw add-zero refl)
-stops b s bytes some (Whole tag start len) e {r} is high =
-    let t = take (start + len) s in
-    let there = answer-fault (start + len) max_depth 0 t (first_small s bytes e) is high in (
+stops b s bytes some (Ok hd) e {r} is high =
+    let t = take (hd.start + hd.len) s in
+    let there = answer-fault (hd.start + hd.len) max_depth 0 t (first_small s bytes e) is high in (
       omega (arith, fault_in max_depth 0 t there, cut_length s bytes e, within s bytes e),
-      split s bytes e max_depth b ∙ ap (λ (v : Check). and_then v (check_at max_depth (b + (start + len)) (drop (start + len) s))) (check-moved max_depth b t ∙ ap (moved b) there),
+      split s bytes e max_depth b ∙ ap (λ (v : Check). and_then v (check_at max_depth (b + (hd.start + hd.len)) (drop (hd.start + hd.len) s))) (check-moved max_depth b t ∙ ap (moved b) there),
     )
 
 bytes_behind : (s : List ℕ) (i : ℕ) → Bytes s → Bytes (drop i s)
@@ -168,7 +166,7 @@ module _ (s : List ℕ) (i : ℕ) {r : ℕ} (bytes : Bytes s) (here : i < length
       let w = goes i (drop i s) (bytes_behind s i bytes) (head_of (drop i s)) refl there low in
       (w.0, omega (arith, w.1, length-drop i s), so_far ∙ w.2 ∙ rw (drop-drop r i s) refl)
 
-  pub first_stops : faults ≤ r → (i + (r - faults) / 8 < length s) × (check s ≡ Fault (record { 0 = i + (r - faults) / 8 }) ((r - faults) % 8))
+  pub first_stops : faults ≤ r → (i + (r - faults) / 8 < length s) × (check s ≡ fault_by (record { 0 = i + (r - faults) / 8 }) ((r - faults) % 8))
   first_stops high =
       let some : 0 < length (drop i s) = rw length-drop (omega arith) in
       let w = stops i (drop i s) (bytes_behind s i bytes) some (head_of (drop i s)) refl there high in
@@ -180,5 +178,5 @@ unfolding fills
 fills-small s bytes e = go (head_of s) refl e
   where
     go : (h : Head) → head_of s ≡ h → fills_to (length s) h ≡ true → length s < faults
-    go (Bad rule) q f = absurd (true≢false (sym f))
-    go (Whole tag start len) q f = omega (arith, eqb-true (start + len) (length s) f, first_small s bytes q)
+    go (Err rule) q f = absurd (true≢false (sym f))
+    go (Ok hd) q f = omega (arith, eqb-true (hd.start + hd.len) (length s) f, first_small s bytes q)

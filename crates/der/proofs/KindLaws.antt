@@ -1,4 +1,5 @@
 -- Laws of an element's kind: what the numbers that the loop works on say of the element there.
+use Rattle.std.specs.Prelude.{Ok, Err}
 use Prim.Native.Nat.{ℕ, ◌+◌, ◌-◌, ◌/◌, ◌%◌, ◌<◌, ◌≤◌}
 use mathlib.Core.Path.{◌≡◌, refl, sym, ◌∙◌, ap, subst}
 use mathlib.Core.List.{List}
@@ -9,8 +10,7 @@ use borrow.Author.Tests.{eq-eqb, ne_eqb, lt-ltb, le-ltb, lt-leb, le-leb, eqb-tru
 use lib.ListN.{length, take, drop, length-drop}
 use lib.Seq.{drop-drop, get_or-drop}
 use lib.Dec.{ltb, eqb, lit≤}
-use Rattle.der.specs.declared.head.Head.{Head}
-use Rattle.der.specs.declared.head.Head.TheVariants.{Bad, Whole}
+use Rattle.der.specs.Types.{Head, whole_head}
 use Rattle.der.specs.declared.element.Element.{Element}
 use Rattle.der.specs.declared.element.Element.TheVariants.{Primitive, Constructed, Faulty}
 use Rattle.der.specs.Head.{byte, tag_ok, inside, length_of, head_of}
@@ -102,7 +102,7 @@ module _ (tag : ℕ) (c : List ℕ) where
 
 -- its content is `len` bytes from `start` on, whether or not it fits; or its length is bad, and start is 0
 pub record Read (s : List ℕ) (start len : ℕ) : Type 0 where
-  pub says : length_of s ≡ cond (eqb start 0) (Bad 2) (inside (length s) (byte s 0) start len)
+  pub says : length_of s ≡ cond (eqb start 0) (Err 2) (inside (length s) (byte s 0) start len)
   pub low : start ≤ 4
   pub small : start + len < length s + 258
 
@@ -114,10 +114,10 @@ read_short s len h e k = record {
   small = omega arith;
 }
 
-read_none : (s : List ℕ) (p : ℕ) → p ≡ 0 → length_of s ≡ Bad 2 → Read s (p % 8) (p / 8)
+read_none : (s : List ℕ) (p : ℕ) → p ≡ 0 → length_of s ≡ Err 2 → Read s (p % 8) (p / 8)
 read_none s p z e = subst (λ (q : ℕ). Read s (q % 8) (q / 8)) (sym z) (record { says = e; low = lit≤ tt; small = omega arith })
 
-read_whole : (s : List ℕ) (start len : ℕ) → length_of s ≡ Whole (byte s 0) start len → Read s start len
+read_whole : (s : List ℕ) (start len : ℕ) → length_of s ≡ whole_head (byte s 0) start len → Read s start len
 unfolding inside
 read_whole s start len e =
     let w = length-fits s e in
@@ -134,7 +134,7 @@ read_long s {p} e = go (eqb p 0) refl
 abbrev pub of_kind : ℕ → List ℕ → ℕ → ℕ → ℕ → Element
 of_kind d s start len k = cond (eqb k 2) (Faulty (rule_of d (head_of s))) (cond (eqb k 0) (Primitive (start + len)) (Constructed start len))
 
-pub bad_length_lem : (d : ℕ) (s : List ℕ) → length_of s ≡ Bad 2 → element_of d s ≡ Faulty (rule_of d (head_of s))
+pub bad_length_lem : (d : ℕ) (s : List ℕ) → length_of s ≡ Err 2 → element_of d s ≡ Faulty (rule_of d (head_of s))
 unfolding element_of head_of judge rule_of
 bad_length_lem d s e =
     let P : Head → Type 0 = λ (h : Head). judge d s h ≡ Faulty (rule_of d h) in
@@ -142,10 +142,10 @@ bad_length_lem d s e =
 
 no_level : (d : ℕ) (s : List ℕ) (h : Head) → d ≡ 0 → judge d s h ≡ Faulty (rule_of d h)
 unfolding judge rule_of
-no_level d s (Bad rule) e = refl
-no_level d s (Whole tag start len) e = simp (eq-eqb d 0 e, and-false)
+no_level d s (Err rule) e = refl
+no_level d s (Ok hd) e = simp (eq-eqb d 0 e, and-false)
 
-module _ (d : ℕ) (s : List ℕ) (start len : ℕ) (e : length_of s ≡ Whole (byte s 0) start len) (level : d ≡ 0 → ⊥) where
+module _ (d : ℕ) (s : List ℕ) (start len : ℕ) (e : length_of s ≡ whole_head (byte s 0) start len) (level : d ≡ 0 → ⊥) where
   by_tests : (a f b k : Bool) → tag_ok (byte s 0) ≡ a → form_ok (byte s 0) ≡ f → constructed (byte s 0) ≡ b → content_ok (byte s 0) (take len (drop start s)) ≡ k → element_of d s ≡ of_kind d s start len (kind_of (byte s 0) (take len (drop start s)))
   unfolding element_of head_of judge kind_of rule_of
   by_tests false f b k qa qf qb qk = simp (ne_eqb (length s) 0 (λ z. omega (arith, length-fits s e)), qa)
@@ -172,8 +172,8 @@ module _ (d : ℕ) (s : List ℕ) (start len : ℕ) (r : Read s start len) (leve
 -- with a level left the rule asks no further how many
 pub same_rule : (d : ℕ) (h : Head) → (d ≡ 0 → ⊥) → rule_of 1 h ≡ rule_of d h
 unfolding rule_of
-same_rule d (Bad rule) n = refl
-same_rule d (Whole tag start len) n = simp (ne_eqb d 0 n)
+same_rule d (Err rule) n = refl
+same_rule d (Ok hd) n = simp (ne_eqb d 0 n)
 
 -- where no element may stand
 pub no_room : (d : ℕ) (s : List ℕ) → (eqb d 0 || ltb (length s) 2) ≡ true → element_of d s ≡ Faulty (rule_of d (head_of s))

@@ -1,4 +1,5 @@
 -- Tag and length have one form only: what `head_of` reads are the bytes `head_bytes` gives, and these are read back.
+use Rattle.std.specs.Prelude.{Ok, Err}
 use Prim.Native.Nat.{ℕ, ◌+◌, ◌*◌, ◌/◌, ◌%◌, ◌<◌, ◌≤◌}
 use mathlib.Core.Path.{◌≡◌, refl, sym, ◌∙◌, ap, subst}
 use mathlib.Core.List.{List, [], ◌∷◌, ◌++◌}
@@ -9,8 +10,7 @@ use borrow.Author.Tests.{ltb-true, ltb-false, eqb-true, eqb-false, lt-ltb, le-lt
 use lib.ListN.{length, take, drop, length-drop, take-append-drop}
 use lib.Seq.{take-suc, length-take-le}
 use lib.Dec.{ltb, leb, eqb, lit<}
-use Rattle.der.specs.declared.head.Head.{Head}
-use Rattle.der.specs.declared.head.Head.TheVariants.{Bad, Whole}
+use Rattle.der.specs.Types.{Head, whole_head}
 use Rattle.der.specs.declared.element.Element.{Element}
 use Rattle.der.specs.declared.element.Element.TheVariants.{Primitive, Constructed, Faulty}
 use Rattle.der.specs.Head.{byte, tag_ok, inside, length81, length82, length_of, head_of, head_bytes}
@@ -35,10 +35,10 @@ front4 s h = take-suc s 3 0 (omega arith) ∙ ap (λ (l : List ℕ). l ++ (byte 
 
 -- what was read is what is written: a tag that may stand, a length below 65,536
 unfoldable Written : List ℕ → Head → Type 0
-Written s (Bad rule) = Unit {0}
-Written s (Whole tag start len) = (take start s ≡ head_bytes tag len) × (tag_ok tag ≡ true) × (len < 65536)
+Written s (Err rule) = Unit {0}
+Written s (Ok hd) = (take hd.start s ≡ head_bytes hd.tag hd.len) × (tag_ok hd.tag ≡ true) × (hd.len < 65536)
 
-bad : (s : List ℕ) (rule : ℕ) → Written s (Bad rule)
+bad : (s : List ℕ) (rule : ℕ) → Written s (Err rule)
 unfolding Written
 bad s rule = tt
 
@@ -96,75 +96,75 @@ head-written s b =
     cond_both (Written s) (tag_ok (byte s 0)) (λ u. length-written s b u) λ u. bad s 1
 
 -- ONE FORM: the bytes of a head are those that its tag and content length give; the tag may stand, and the length is below 65,536
-pub one_form : (s : List ℕ) {tag start len : ℕ} → Bytes s → head_of s ≡ Whole tag start len → (take start s ≡ head_bytes tag len) × (tag_ok tag ≡ true) × (len < 65536)
+pub one_form : (s : List ℕ) {tag start len : ℕ} → Bytes s → head_of s ≡ whole_head tag start len → (take start s ≡ head_bytes tag len) × (tag_ok tag ≡ true) × (len < 65536)
 unfolding Written
 one_form s b e = subst (Written s) e (head-written s b)
 
 -- ONE ENCODING: two heads that read as the same tag and content length are the same bytes
-pub one_encoding : (s t : List ℕ) {tag a b len : ℕ} → Bytes s → Bytes t → head_of s ≡ Whole tag a len → head_of t ≡ Whole tag b len → take a s ≡ take b t
+pub one_encoding : (s t : List ℕ) {tag a b len : ℕ} → Bytes s → Bytes t → head_of s ≡ whole_head tag a len → head_of t ≡ whole_head tag b len → take a s ≡ take b t
 one_encoding s t p q e f = (one_form s p e).0 ∙ sym (one_form t q f).0
 
 -- each form is read where its bytes stand
 module _ (s : List ℕ) (ok : tag_ok (byte s 0) ≡ true) where
-  pub short_read : byte s 1 < 128 → 2 + byte s 1 ≤ length s → head_of s ≡ Whole (byte s 0) 2 (byte s 1)
+  pub short_read : byte s 1 < 128 → 2 + byte s 1 ≤ length s → head_of s ≡ whole_head (byte s 0) 2 (byte s 1)
   unfolding head_of length_of inside
   short_read h fits =
       simp (ne_eqb (length s) 0 (λ z. omega arith), ok, le-ltb (length s) 2 (omega arith), lt-ltb (byte s 1) 128 h, le-leb (2 + byte s 1) (length s) fits)
 
-  one_read : byte s 1 ≡ 129 → 128 ≤ byte s 2 → 3 + byte s 2 ≤ length s → head_of s ≡ Whole (byte s 0) 3 (byte s 2)
+  one_read : byte s 1 ≡ 129 → 128 ≤ byte s 2 → 3 + byte s 2 ≤ length s → head_of s ≡ whole_head (byte s 0) 3 (byte s 2)
   unfolding head_of length_of length81 inside
   one_read e h fits =
       simp (ne_eqb (length s) 0 (λ z. omega arith), ok, le-ltb (length s) 2 (omega arith), e, le-ltb (length s) 3 (omega arith), le-ltb (byte s 2) 128 h, le-leb (3 + byte s 2) (length s) fits)
 
-  two_read : byte s 1 ≡ 130 → 0 < byte s 2 → 4 + (byte s 2 * 256 + byte s 3) ≤ length s → head_of s ≡ Whole (byte s 0) 4 (byte s 2 * 256 + byte s 3)
+  two_read : byte s 1 ≡ 130 → 0 < byte s 2 → 4 + (byte s 2 * 256 + byte s 3) ≤ length s → head_of s ≡ whole_head (byte s 0) 4 (byte s 2 * 256 + byte s 3)
   unfolding head_of length_of length82 inside
   two_read e h fits =
       simp (ne_eqb (length s) 0 (λ z. omega arith), ok, le-ltb (length s) 2 (omega arith), e, le-ltb (length s) 4 (omega arith), ne_eqb (byte s 2) 0 (λ z. omega arith), le-leb (4 + (byte s 2 * 256 + byte s 3)) (length s) fits)
 
 -- READ BACK: the bytes of a tag that may stand and a length below 65,536, with so many bytes after them, are read as these
-pub read_back : (tag len : ℕ) (rest : List ℕ) → tag_ok tag ≡ true → len < 65536 → len ≤ length rest → head_of (head_bytes tag len ++ rest) ≡ Whole tag (length (head_bytes tag len)) len
+pub read_back : (tag len : ℕ) (rest : List ℕ) → tag_ok tag ≡ true → len < 65536 → len ≤ length rest → head_of (head_bytes tag len ++ rest) ≡ whole_head tag (length (head_bytes tag len)) len
 unfolding head_bytes
 read_back tag len rest ok small fits =
-    let P : List ℕ → Type 0 = λ (l : List ℕ). head_of (l ++ rest) ≡ Whole tag (length l) len in
+    let P : List ℕ → Type 0 = λ (l : List ℕ). head_of (l ++ rest) ≡ whole_head tag (length l) len in
     let whole : len / 256 * 256 + len % 256 ≡ len = div-add-mod' len 256 in
     cond_both P (ltb len 128)
     (λ t. short_read (tag ∷ len ∷ rest) ok (ltb-true _ _ t) (omega arith))
     λ t. cond_both P (ltb len 256)
     (λ u. one_read (tag ∷ 129 ∷ len ∷ rest) ok refl (ltb-false _ _ t) (omega arith))
     λ u. two_read (tag ∷ 130 ∷ len / 256 ∷ len % 256 ∷ rest) ok refl (omega (arith, ltb-false len 256 u, mod-lt len {m = 256} (lit< tt))) (omega arith)
-    ∙ ap (Whole tag 4) whole
+    ∙ ap (whole_head tag 4) whole
 
 -- END BY HEAD: where other bytes begin with the same head and have room for its content, the element there ends at the same place
-pub same_end : (s t : List ℕ) {tag start len : ℕ} → Bytes s → head_of s ≡ Whole tag start len → take start t ≡ take start s → start + len ≤ length t → head_of t ≡ Whole tag start len
+pub same_end : (s t : List ℕ) {tag start len : ℕ} → Bytes s → head_of s ≡ whole_head tag start len → take start t ≡ take start s → start + len ≤ length t → head_of t ≡ whole_head tag start len
 same_end s t {tag} {start} {len} b e same fits =
     let form = one_form s b e in
     let bytes : head_bytes tag len ≡ take start t = sym form.0 ∙ sym same in
     let here : start ≡ length (head_bytes tag len) = sym (ap length bytes ∙ length-take-le start t (omega arith)) in
     ap head_of (sym (take-append-drop start t) ∙ ap (λ (l : List ℕ). l ++ drop start t) (sym bytes))
     ∙ read_back tag len (drop start t) form.1 form.2 (omega (arith, length-drop start t))
-    ∙ ap (λ (k : ℕ). Whole tag k len) (sym here)
+    ∙ ap (λ (k : ℕ). whole_head tag k len) (sym here)
 
 -- an element takes its head and the content that the head announces, and nothing else
 Ends : Head → Element → Type 0
-Ends h (Primitive size) = (tag : ℕ) × (start : ℕ) × (len : ℕ) × (h ≡ Whole tag start len) × (size ≡ start + len)
-Ends h (Constructed start len) = (tag : ℕ) × (h ≡ Whole tag start len)
+Ends h (Primitive size) = (tag : ℕ) × (start : ℕ) × (len : ℕ) × (h ≡ whole_head tag start len) × (size ≡ start + len)
+Ends h (Constructed start len) = (tag : ℕ) × (h ≡ whole_head tag start len)
 Ends h (Faulty rule) = Unit {0}
 
 judge-ends : (d : ℕ) (s : List ℕ) (h : Head) → Ends h (judge d s h)
 unfolding judge Ends
-judge-ends d s (Bad rule) = tt
-judge-ends d s (Whole tag start len) =
-    let P : Element → Type 0 = Ends (Whole tag start len) in
-    cond-case P (form_ok tag && not (eqb d 0))
-    (cond-case P (constructed tag) {x = Constructed start len} (tag, refl)
-    (cond-case P (content_ok tag (take len (drop start s))) {x = Primitive (start + len)} {y = Faulty 4} (tag, start, len, refl, refl) tt))
+judge-ends d s (Err rule) = tt
+judge-ends d s (Ok hd) =
+    let P : Element → Type 0 = Ends (whole_head hd.tag hd.start hd.len) in
+    cond-case P (form_ok hd.tag && not (eqb d 0))
+    (cond-case P (constructed hd.tag) {x = Constructed hd.start hd.len} (hd.tag, refl)
+    (cond-case P (content_ok hd.tag (take hd.len (drop hd.start s))) {x = Primitive (hd.start + hd.len)} {y = Faulty 4} (hd.tag, hd.start, hd.len, refl, refl) tt))
     tt
 
 -- ELEMENT'S END: a well-formed primitive element ends where its head says, and so does a constructed one, whose content is what its head announces
-pub primitive-end : (d : ℕ) (s : List ℕ) {size : ℕ} → element_of d s ≡ Primitive size → (tag : ℕ) × (start : ℕ) × (len : ℕ) × (head_of s ≡ Whole tag start len) × (size ≡ start + len)
+pub primitive-end : (d : ℕ) (s : List ℕ) {size : ℕ} → element_of d s ≡ Primitive size → (tag : ℕ) × (start : ℕ) × (len : ℕ) × (head_of s ≡ whole_head tag start len) × (size ≡ start + len)
 unfolding element_of Ends
 primitive-end d s e = subst (Ends (head_of s)) e (judge-ends d s (head_of s))
 
-pub constructed-end : (d : ℕ) (s : List ℕ) {start len : ℕ} → element_of d s ≡ Constructed start len → (tag : ℕ) × (head_of s ≡ Whole tag start len)
+pub constructed-end : (d : ℕ) (s : List ℕ) {start len : ℕ} → element_of d s ≡ Constructed start len → (tag : ℕ) × (head_of s ≡ whole_head tag start len)
 unfolding element_of Ends
 constructed-end d s e = subst (Ends (head_of s)) e (judge-ends d s (head_of s))

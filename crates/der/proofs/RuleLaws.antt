@@ -1,4 +1,5 @@
 -- The rules that a fault of DER names: 1 to 4.
+use Rattle.std.specs.Prelude.{Ok, Err}
 use Prim.Native.Nat.{ℕ, zero, suc, ◌+◌, ◌-◌, ◌*◌, ◌/◌, ◌%◌, ◌<◌, ◌≤◌}
 use mathlib.Core.Path.{◌≡◌, refl, subst}
 use native.Mathlib.Omega.{arith}
@@ -8,12 +9,9 @@ use mathlib.Core.Bool.{◌&&◌, ◌||◌, not}
 use lib.ListN.{length, get_or, take, drop}
 use lib.Dec.{ltb, leb, eqb, lit≤}
 use Rattle.der.specs.declared.Offset.{Offset}
-use Rattle.der.specs.declared.head.Head.{Head}
-use Rattle.der.specs.declared.head.Head.TheVariants.{Bad, Whole}
+use Rattle.der.specs.Types.{Head, Check, fault_by, whole_head}
 use Rattle.der.specs.declared.element.Element.{Element}
 use Rattle.der.specs.declared.element.Element.TheVariants.{Primitive, Constructed, Faulty}
-use Rattle.der.specs.declared.element.Check.{Check}
-use Rattle.der.specs.declared.element.Check.TheVariants.{Sound, Fault}
 use Rattle.der.specs.Head.{tag_ok, inside, length81, length82, length_of, head_of}
 use Rattle.der.specs.Content.{content_ok}
 use Rattle.der.specs.Element.{max_depth, constructed, form_ok, judge, element_of, size_of, and_then, with_content, each_element, content_at, check_at, check, is_sound}
@@ -24,8 +22,8 @@ abbrev pub Rule : ℕ → Type 0
 Rule rule = (1 ≤ rule) × (rule ≤ 4)
 
 unfoldable pub HeadRule : Head → Type 0
-HeadRule (Bad rule) = Rule rule
-HeadRule (Whole tag start len) = Unit {0}
+HeadRule (Err rule) = Rule rule
+HeadRule (Ok hd) = Unit {0}
 
 unfoldable ElementRule : Element → Type 0
 ElementRule (Primitive size) = Unit {0}
@@ -33,16 +31,16 @@ ElementRule (Constructed start len) = Unit {0}
 ElementRule (Faulty rule) = Rule rule
 
 unfoldable pub CheckRule : Check → Type 0
-CheckRule Sound = Unit {0}
-CheckRule (Fault at rule) = Rule rule
+CheckRule (Ok _) = Unit {0}
+CheckRule (Err ft) = Rule ft.rule
 
-bad_2 : HeadRule (Bad 2)
+bad_2 : HeadRule (Err 2)
 unfolding HeadRule
 bad_2 = (lit≤ tt, lit≤ tt)
 
 inside_rule : (n tag start len : ℕ) → HeadRule (inside n tag start len)
 unfolding inside HeadRule
-inside_rule n tag start len = cond-case HeadRule (leb (start + len) n) {x = Whole tag start len} tt bad_2
+inside_rule n tag start len = cond-case HeadRule (leb (start + len) n) {x = whole_head tag start len} tt bad_2
 
 length_rule : (s : List ℕ) → HeadRule (length_of s)
 unfolding length_of length81 length82
@@ -56,15 +54,15 @@ length_rule s =
 
 pub head_rule : (s : List ℕ) → HeadRule (head_of s)
 unfolding head_of HeadRule
-head_rule s = cond-case HeadRule (eqb (length s) 0) bad_2 (cond-case HeadRule (tag_ok (get_or s 0 0)) {y = Bad 1} (length_rule s) (lit≤ tt, lit≤ tt))
+head_rule s = cond-case HeadRule (eqb (length s) 0) bad_2 (cond-case HeadRule (tag_ok (get_or s 0 0)) {y = Err 1} (length_rule s) (lit≤ tt, lit≤ tt))
 
 judge_rule : (d : ℕ) (s : List ℕ) (h : Head) → HeadRule h → ElementRule (judge d s h)
 unfolding judge HeadRule ElementRule
-judge_rule d s (Bad rule) w = w
-judge_rule d s (Whole tag start len) w =
-    cond-case ElementRule (form_ok tag && not (eqb d 0))
-    (cond-case ElementRule (constructed tag) {x = Constructed start len} tt
-    (cond-case ElementRule (content_ok tag (take len (drop start s))) {x = Primitive (start + len)} {y = Faulty 4} tt (lit≤ tt, lit≤ tt)))
+judge_rule d s (Err rule) w = w
+judge_rule d s (Ok hd) w =
+    cond-case ElementRule (form_ok hd.tag && not (eqb d 0))
+    (cond-case ElementRule (constructed hd.tag) {x = Constructed hd.start hd.len} tt
+    (cond-case ElementRule (content_ok hd.tag (take hd.len (drop hd.start s))) {x = Primitive (hd.start + hd.len)} {y = Faulty 4} tt (lit≤ tt, lit≤ tt)))
     (lit≤ tt, lit≤ tt)
 
 element_rule : (d : ℕ) (s : List ℕ) → ElementRule (element_of d s)
@@ -72,8 +70,8 @@ unfolding element_of
 element_rule d s = judge_rule d s (head_of s) (head_rule s)
 
 both_rule : (v next : Check) → CheckRule v → CheckRule next → CheckRule (and_then v next)
-both_rule Sound next w u = u
-both_rule (Fault at rule) next w u = w
+both_rule (Ok _) next w u = u
+both_rule (Err ft) next w u = w
 
 with_content_rule : (inner : ℕ → List ℕ → Check) → ((b : ℕ) (s : List ℕ) → CheckRule (inner b s)) → (b : ℕ) (s : List ℕ) (o : Element) → ElementRule o → CheckRule (with_content inner b s o)
 unfolding CheckRule ElementRule
@@ -96,7 +94,7 @@ content_rule zero b s = tt
 content_rule (suc d) b s = run_rule (content_at d) (content_rule d) d 0 b s
 
 -- DER'S RULES: a fault that the check of DER names is of rule 1, 2, 3 or 4
-pub check_rule : (s : List ℕ) {at : Offset} {rule : ℕ} → check s ≡ Fault at rule → Rule rule
+pub check_rule : (s : List ℕ) {at : Offset} {rule : ℕ} → check s ≡ fault_by at rule → Rule rule
 unfolding check check_at CheckRule
 check_rule s e = subst CheckRule e (run_rule (content_at max_depth) (content_rule max_depth) max_depth 0 0 s)
 
@@ -104,27 +102,27 @@ check_rules : (d b : ℕ) (s : List ℕ) → CheckRule (check_at d b s)
 unfolding check_at CheckRule
 check_rules d b s = run_rule (content_at d) (content_rule d) d 0 b s
 
-sound_of : (end : ℕ) (v : Check) {r : ℕ} → r ≡ answer_of end v → r < faults → v ≡ Sound
+sound_of : (end : ℕ) (v : Check) {r : ℕ} → r ≡ answer_of end v → r < faults → v ≡ (Ok tt)
 unfolding answer_of
-sound_of end Sound e h = refl
-sound_of end (Fault at rule) e h = absurd (omega arith)
+sound_of end (Ok _) e h = refl
+sound_of end (Err ft) e h = absurd (omega arith)
 
-fault_of_lem : (end : ℕ) (v : Check) → CheckRule v → end < faults → {r : ℕ} → r ≡ answer_of end v → faults ≤ r → v ≡ Fault (record { 0 = (r - faults) / 8 }) ((r - faults) % 8)
+fault_of_lem : (end : ℕ) (v : Check) → CheckRule v → end < faults → {r : ℕ} → r ≡ answer_of end v → faults ≤ r → v ≡ fault_by (record { 0 = (r - faults) / 8 }) ((r - faults) % 8)
 unfolding answer_of CheckRule
-fault_of_lem end Sound w h e n = absurd (omega arith)
-fault_of_lem end (Fault at rule) w h {r} e n =
-    let u = unpacked rule at.0 {p = r - faults} (omega arith) (omega arith) in rw (u.0, u.1) refl
+fault_of_lem end (Ok _) w h e n = absurd (omega arith)
+fault_of_lem end (Err ft) w h {r} e n =
+    let u = unpacked ft.rule ft.at.0 {p = r - faults} (omega arith) (omega arith) in rw (u.0, u.1) refl
 
 test_of : (end : ℕ) (v : Check) → end < faults → {r : ℕ} → r ≡ answer_of end v → ltb r faults ≡ is_sound v
 unfolding answer_of
-test_of end Sound h {r} e = lt-ltb r faults (omega arith)
-test_of end (Fault at rule) h {r} e = le-ltb r faults (omega arith)
+test_of end (Ok _) h {r} e = lt-ltb r faults (omega arith)
+test_of end (Err ft) h {r} e = le-ltb r faults (omega arith)
 
 -- what the number of a check says
-pub answer_sound : (end d b : ℕ) (s : List ℕ) {r : ℕ} → r ≡ answer_of end (check_at d b s) → r < faults → check_at d b s ≡ Sound
+pub answer_sound : (end d b : ℕ) (s : List ℕ) {r : ℕ} → r ≡ answer_of end (check_at d b s) → r < faults → check_at d b s ≡ (Ok tt)
 answer_sound end d b s e h = sound_of end (check_at d b s) e h
 
-pub answer-fault : (end d b : ℕ) (s : List ℕ) {r : ℕ} → end < faults → r ≡ answer_of end (check_at d b s) → faults ≤ r → check_at d b s ≡ Fault (record { 0 = (r - faults) / 8 }) ((r - faults) % 8)
+pub answer-fault : (end d b : ℕ) (s : List ℕ) {r : ℕ} → end < faults → r ≡ answer_of end (check_at d b s) → faults ≤ r → check_at d b s ≡ fault_by (record { 0 = (r - faults) / 8 }) ((r - faults) % 8)
 answer-fault end d b s h e n = fault_of_lem end (check_at d b s) (check_rules d b s) h e n
 
 pub answer_test : (end d b : ℕ) (s : List ℕ) {r : ℕ} → end < faults → r ≡ answer_of end (check_at d b s) → ltb r faults ≡ is_sound (check_at d b s)

@@ -5,7 +5,7 @@ ghost use Rattle.der.specs.Element.{form_ok, check_at, check, fills, is_element}
 ghost use Rattle.der.specs.Code.{kind_of, kind_in, rule_of, faults, answer_of, first_of};
 
 use crate::content::content_ok;
-use crate::head::{Head, wide};
+use crate::head::wide;
 use crate::{Offset, head};
 
 // At most so many elements deep, the message being depth 1.
@@ -22,12 +22,15 @@ pub enum Element {
     Faulty(u8),
 }
 
-// Elements with all that they hold: no fault, or the first one's offset and rule.
+// The first fault: its offset, and the lowest rule broken there.
 #[derive(Clone, Copy)]
-pub enum Check {
-    Sound,
-    Fault(Offset, u8),
+pub struct FirstFault {
+    pub at: Offset,
+    pub rule: u8,
 }
+
+// Elements with all that they hold: no fault, or the first one.
+pub type Check = Result<(), FirstFault>;
 
 // Universal tags are primitive, but for SEQUENCE and SET; other classes may be either.
 fn form_ok(tag: u8) -> bool
@@ -205,11 +208,14 @@ fn one_by_one(s: &[u8]) -> Check
         let p = first(&s[i..]);
         if FAULTS <= p {
             let f = p - FAULTS;
-            return Check::Fault(Offset(i + f / 8), low(f % 8));
+            return Err(FirstFault {
+                at: Offset(i + f / 8),
+                rule: low(f % 8),
+            });
         }
         i += p;
     }
-    Check::Sound
+    Ok(())
 }
 
 // Whether all of `s` is whole elements, the first at depth 1; or the first fault.
@@ -221,19 +227,21 @@ pub fn check_elements(s: &[u8]) -> Check
     }
     let p = elements(s, 0, MAX_DEPTH);
     if p < FAULTS {
-        return Check::Sound;
+        return Ok(());
     }
     let f = p - FAULTS;
-    Check::Fault(Offset(f / 8), low(f % 8))
+    Err(FirstFault {
+        at: Offset(f / 8),
+        rule: low(f % 8),
+    })
 }
 
 fn fills(s: &[u8]) -> bool
     ensures { result ≡ fills s.now }
 {
-    let h = head::read(s);
-    match h {
-        Head::Bad(_) => false,
-        Head::Whole { tag: _, start, len } => start + len == s.len(),
+    match head::read(s) {
+        Ok(whole) => whole.start + whole.len == s.len(),
+        Err(_) => false,
     }
 }
 

@@ -3,12 +3,16 @@ ghost use Rattle.std.specs.Prelude.{◌≡◌, ◌<◌, ltb};
 ghost use Rattle.der.specs.Head.{byte, tag_ok, length_of, head_of};
 ghost use Rattle.der.specs.Code.{fit_of, packed_of, broken_rule};
 
-// An element whose content is `len` bytes from `start`, or the rule that its tag and length break.
+// The head of an element whose content is `len` bytes from `start`.
 #[derive(Clone, Copy)]
-pub enum Head {
-    Whole { tag: u8, start: usize, len: usize },
-    Bad(u8),
+pub struct Whole {
+    pub tag: u8,
+    pub start: usize,
+    pub len: usize,
 }
+
+// Tag and length of an element, or the rule that they break.
+pub type Head = Result<Whole, u8>;
 
 // A byte as a number to count with.
 pub(crate) fn wide(x: u8) -> usize
@@ -104,13 +108,13 @@ pub fn read(s: &[u8]) -> Head
 {
     let p = packed(s);
     if p == 0 {
-        return Head::Bad(broken_rule(s));
+        return Err(broken_rule(s));
     }
-    Head::Whole {
+    Ok(Whole {
         tag: first_byte(s),
         start: p % 8,
         len: p / 8,
-    }
+    })
 }
 
 // The first byte; 0, which is no tag, where there is none.

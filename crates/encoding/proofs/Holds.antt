@@ -1,4 +1,5 @@
 -- A cursor before known bytes: what the verbs do there.
+use Rattle.der.specs.Types.{whole_head}
 use Prim.Native.Nat.{ℕ, ◌+◌, ◌-◌, ◌<◌, ◌≤◌}
 use mathlib.Core.Path.{◌≡◌, refl, sym, ◌∙◌, ap, subst}
 use mathlib.Core.List.{List, [], ◌∷◌, ◌++◌, append_assoc}
@@ -10,7 +11,6 @@ use lib.ListN.{length, get_or, take, drop, length-append}
 use lib.Seq.{take-take, take-add, take-append_seam, drop-append_seam, drop-drop, get_or-take, get_or-drop}
 use lib.Dec.{ltb}
 use Rattle.der.specs.Head.{byte, tag_ok, head_of, head_bytes}
-use Rattle.der.specs.declared.head.Head.TheVariants.{Whole}
 use Rattle.der.proofs.HeadLaws.{cond-case}
 use Rattle.der.proofs.OneForm.{read_back}
 use Rattle.grammar.specs.declared.cursor.Cursor.{Cursor}
@@ -84,10 +84,10 @@ module _
     unfolding start
     whole-size = omega (arith, h.size, ap length split_bytes, length-append (head_bytes tag (length v)) (v ++ rest), length-append v rest)
 
-    head_read : head_in m c.at c.end ≡ Whole tag start (length v)
+    head_read : head_in m c.at c.end ≡ whole_head tag start (length v)
     unfolding head_in start
     head_read =
-        let e : head_of (head_bytes tag (length v) ++ (v ++ rest)) ≡ Whole tag (length (head_bytes tag (length v))) (length v) =
+        let e : head_of (head_bytes tag (length v) ++ (v ++ rest)) ≡ whole_head tag (length (head_bytes tag (length v))) (length v) =
         read_back tag (length v) (v ++ rest) tags small (omega (arith, length-append v rest)) in
         let size = whole-size in
         simp (lt-leb c.end c.at (omega (arith, head-size tag (length v))), le-ltb (length m) c.end h.high, h.is, split_bytes, e)

@@ -1,4 +1,5 @@
 -- The other way: what was read is what is written.
+use Rattle.std.specs.Prelude.{Ok, Err}
 use Prim.Native.Nat.{ℕ, ◌+◌, ◌-◌, ◌<◌, ◌≤◌}
 use mathlib.Core.Path.{◌≡◌, refl, sym, ◌∙◌, ap, subst}
 use mathlib.Core.List.{List, [], ◌∷◌, ◌++◌, append_assoc}
@@ -9,8 +10,7 @@ use lib.ListN.{length, take, drop, length-take, length-drop, take-append-drop, g
 use lib.Seq.{get_or-take, get_or-drop, length-take-le}
 use lib.Dec.{ltb, leb, eqb, lit<}
 use Rattle.der.specs.Head.{byte, tag_ok, head_of, head_bytes}
-use Rattle.der.specs.declared.head.Head.{Head}
-use Rattle.der.specs.declared.head.Head.TheVariants.{Bad, Whole}
+use Rattle.der.specs.Types.{Head, whole_head}
 use Rattle.der.proofs.HeadLaws.{cond_both, whole_in}
 use Rattle.der.proofs.OneForm.{Bytes, one_form}
 use Rattle.grammar.specs.declared.cursor.Cursor.{Cursor}
@@ -35,8 +35,8 @@ no_bytes : (x : List ℕ) → length x ≡ 0 → x ≡ []
 no_bytes [] e = refl
 no_bytes (y ∷ x) e = absurd (omega arith)
 
-head_there : (m : List ℕ) (c : Cursor) (x : List ℕ) {t start len : ℕ} → Holds m c x → head_in m c.at c.end ≡ Whole t start len
-    → head_of x ≡ Whole t start len
+head_there : (m : List ℕ) (c : Cursor) (x : List ℕ) {t start len : ℕ} → Holds m c x → head_in m c.at c.end ≡ whole_head t start len
+    → head_of x ≡ whole_head t start len
 unfolding head_in
 head_there m c [] h q =
     let empty : leb c.end c.at ≡ true = le-leb c.end c.at (omega (arith, h.size)) in
@@ -53,7 +53,7 @@ pub record Is (m : List ℕ) (tag : ℕ) (c r : Cursor) (x : List ℕ) : Type 0 
   pub took : Took m c r content rest
 
 module _ (m : List ℕ) (bytes : Bytes m) (c : Cursor) (x : List ℕ) (h : Holds m c x) where
-  whole_is : (tag : ℕ) {start len : ℕ} → head_in m c.at c.end ≡ Whole tag start len → Is m tag c (need_of m tag c) x
+  whole_is : (tag : ℕ) {start len : ℕ} → head_in m c.at c.end ≡ whole_head tag start len → Is m tag c (need_of m tag c) x
   unfolding element
   whole_is tag {start} {len} q =
       let e = head_there m c x h q in
@@ -81,10 +81,10 @@ module _ (m : List ℕ) (bytes : Bytes m) (c : Cursor) (x : List ℕ) (h : Holds
     where
       by_head : (o : Head) → head_in m c.at c.end ≡ o → is_ok (cond (is_ok c) (if_tag tag c (head_in m c.at c.end)) c) ≡ true
           → Is m tag c (need_of m tag c) x
-      by_head (Bad rule) q k = untrue (sym (simp (h.ok, q)) ∙ k)
-      by_head (Whole t start len) q k =
-          cond_both (λ (r : Cursor). is_ok r ≡ true → Is m tag c (need_of m tag c) x) (eqb t tag)
-          (λ s y. whole_is tag (q ∙ ap (λ (j : ℕ). Whole j start len) (eqb-true t tag s)))
+      by_head (Err rule) q k = untrue (sym (simp (h.ok, q)) ∙ k)
+      by_head (Ok hd) q k =
+          cond_both (λ (r : Cursor). is_ok r ≡ true → Is m tag c (need_of m tag c) x) (eqb hd.tag tag)
+          (λ s y. whole_is tag (q ∙ ap (λ (j : ℕ). whole_head j hd.start hd.len) (eqb-true hd.tag tag s)))
           (λ s y. untrue y) (simp (h.ok, q) at k)
 
 pub at-end : {m x : List ℕ} (c : Cursor) → Holds m c x → c.end ≤ c.at → x ≡ []

@@ -1,4 +1,6 @@
 -- The same bytes are of the same order and the same given parts; what is protected does not depend on the protection.
+use Rattle.der.specs.declared.head.Whole.{Whole}
+use Rattle.der.specs.Types.{Head, whole_head}
 use Rattle.std.specs.Prelude.{Ok, Some, None}
 use Prim.Native.Nat.{ℕ, ◌+◌, ◌-◌, ◌%◌, ◌<◌, ◌≤◌}
 use mathlib.Core.Path.{◌≡◌, refl, sym, ◌∙◌, ap, subst}
@@ -10,7 +12,6 @@ use lib.ListN.{length, drop, length-append}
 use lib.Seq.{drop-append_seam}
 use lib.Dec.{eqb}
 use Rattle.der.specs.Head.{byte, tag_ok, head_of, head_bytes}
-use Rattle.der.specs.declared.head.Head.TheVariants.{Whole}
 use Rattle.der.proofs.OneForm.{read_back}
 use Rattle.grammar.specs.declared.Message.{Message}
 use Rattle.message.specs.Read.{reading_of}
@@ -42,7 +43,7 @@ protection_apart g o p = (
 -- ## Elements with the same bytes hold the same
 
 head-is : (tag : ℕ) (v : List ℕ) → tag_ok tag ≡ true → length v < 65536
-    → head_of (element tag v) ≡ Whole tag (length (head_bytes tag (length v))) (length v)
+    → head_of (element tag v) ≡ whole_head tag (length (head_bytes tag (length v))) (length v)
 unfolding element
 head-is tag v ok few = read_back tag (length v) v ok few (omega arith)
 
@@ -50,14 +51,16 @@ inside_is : (tag : ℕ) (v : List ℕ) → drop (length (head_bytes tag (length 
 unfolding element
 inside_is tag v = drop-append_seam (head_bytes tag (length v)) v
 
+same_whole : {r : Head} {x y : Whole} → r ≡ Ok x → r ≡ Ok y → x ≡ y
+same_whole e f = cc
+
 element-same : (tag : ℕ) (v w : List ℕ) → tag_ok tag ≡ true → length (element tag v) < 65536 → element tag v ≡ element tag w → v ≡ w
 element-same tag v w ok few e =
     let a : ℕ = length (head_bytes tag (length v)) in
     let b : ℕ = length (head_bytes tag (length w)) in
     let hv = head-is tag v ok (content-size tag v few) in
     let hw = head-is tag w ok (content-size tag w (subst (λ (l : List ℕ). length l < 65536) e few)) in
-    let heads : Whole tag a (length v) ≡ Whole tag b (length w) = sym hv ∙ ap head_of e ∙ hw in
-    let starts : a ≡ b = cc heads in
+    let starts : a ≡ b = ap (λ (h : Whole). h.start) (same_whole hv (ap head_of e ∙ hw)) in
     sym (inside_is tag v) ∙ ap (λ (l : List ℕ). drop a l) e ∙ ap (λ (n : ℕ). drop n (element tag w)) starts ∙ inside_is tag w
 
 after_same : (x v w : List ℕ) → x ++ v ≡ x ++ w → v ≡ w

@@ -1,4 +1,5 @@
 -- DER, composed: elements one after another, and an element around elements.
+use Rattle.std.specs.Prelude.{Ok, Err}
 use Prim.Native.Nat.{ℕ, zero, suc, ◌+◌, ◌-◌, ◌<◌}
 use mathlib.Core.Path.{◌≡◌, refl, sym, ◌∙◌, ap, subst}
 use mathlib.Core.List.{List, [], ◌∷◌, ◌++◌, append_assoc, append-nil}
@@ -9,12 +10,9 @@ use lib.ListN.{length, take, drop, length-append, length-drop, take-append-drop}
 use lib.Seq.{take-append_seam, drop-append_seam, drop_at}
 use Rattle.der.specs.Head.{tag_ok, head_of, head_bytes}
 use Rattle.der.specs.Content.{content_ok}
-use Rattle.der.specs.declared.head.Head.{Head}
-use Rattle.der.specs.declared.head.Head.TheVariants.{Bad, Whole}
+use Rattle.der.specs.Types.{Head, Check, whole_head}
 use Rattle.der.specs.declared.element.Element.{Element}
 use Rattle.der.specs.declared.element.Element.TheVariants.{Primitive, Constructed, Faulty}
-use Rattle.der.specs.declared.element.Check.{Check}
-use Rattle.der.specs.declared.element.Check.TheVariants.{Sound, Fault}
 use Rattle.der.specs.Element.{constructed, form_ok, judge, element_of, size_of, and_then, with_content, each_element, content_at, check_at, fills_to, fills, is_sound, is_element}
 use Rattle.der.proofs.Auto.{and_left, and_right}
 use Rattle.der.proofs.HeadLaws.{whole_in}
@@ -27,7 +25,7 @@ use Rattle.encoding.specs.Element.{element}
 -- what an element with this tag may hold, where d levels are left below it and it may stand itself
 pub data Fit (d tag : ℕ) (v : List ℕ) : Type 0 where
   primitive : constructed tag ≡ false → content_ok tag v ≡ true → Fit d tag v
-  nested : constructed tag ≡ true → ((b : ℕ) → check_at d b v ≡ Sound) → Fit d tag v
+  nested : constructed tag ≡ true → ((b : ℕ) → check_at d b v ≡ (Ok tt)) → Fit d tag v
 
 pub record Good (d tag : ℕ) (v : List ℕ) : Type 0 where
   pub tags : tag_ok tag ≡ true
@@ -36,7 +34,7 @@ pub record Good (d tag : ℕ) (v : List ℕ) : Type 0 where
 
 -- whole elements, wherever they stand
 abbrev pub SoundAt : ℕ → List ℕ → Type 0
-SoundAt d s = (b : ℕ) → check_at d b s ≡ Sound
+SoundAt d s = (b : ℕ) → check_at d b s ≡ (Ok tt)
 
 inner_check : (d b : ℕ) (s : List ℕ) → content_at (suc d) b s ≡ check_at d b s
 unfolding content_at check_at
@@ -61,7 +59,7 @@ module _ (d tag : ℕ) (v rest : List ℕ) (few : length v < 65536) where
   rest_is : drop (start + length v) (element tag v ++ rest) ≡ rest
   rest_is = drop_at (element tag v) rest (start + length v) (size_is)
 
-  head-is : tag_ok tag ≡ true → head_of (element tag v ++ rest) ≡ Whole tag start (length v)
+  head-is : tag_ok tag ≡ true → head_of (element tag v ++ rest) ≡ whole_head tag start (length v)
   unfolding start
   head-is ok = rw bytes_are (read_back tag (length v) (v ++ rest) ok few (omega (arith, length-append v rest)))
 
@@ -107,12 +105,12 @@ leaf_sound d tag v rest few ok form c k = element_sound d tag v rest few (record
 -- ## Soundness does not depend on the offset
 
 both_sound : (v w : Check) → is_sound (and_then v w) ≡ (is_sound v && is_sound w)
-both_sound Sound w = refl
-both_sound (Fault at rule) w = refl
+both_sound (Ok _) w = refl
+both_sound (Err ft) w = refl
 
-is_sound_lem : (v : Check) → is_sound v ≡ true → v ≡ Sound
-is_sound_lem Sound e = refl
-is_sound_lem (Fault at rule) e = absurd (true≢false (sym e))
+is_sound_lem : (v : Check) → is_sound v ≡ true → v ≡ (Ok tt)
+is_sound_lem (Ok _) e = refl
+is_sound_lem (Err ft) e = absurd (true≢false (sym e))
 
 abbrev Anywhere : (ℕ → List ℕ → Check) → Type 0
 Anywhere inner = (a b : ℕ) (s : List ℕ) → is_sound (inner a s) ≡ is_sound (inner b s)
@@ -148,8 +146,8 @@ sound_anywhere d a s e b = is_sound_lem (check_at d b s) (run_anywhere (content_
 -- ## An element that is given whole
 
 first_of : {r : Check} (v w : Check) → r ≡ and_then v w → is_sound r ≡ true → is_sound v ≡ true
-first_of Sound w e s = refl
-first_of (Fault at rule) w e s = sym (ap is_sound e) ∙ s
+first_of (Ok _) w e s = refl
+first_of (Err ft) w e s = sym (ap is_sound e) ∙ s
 
 -- the first of whole elements
 module _
@@ -196,25 +194,25 @@ unfolding is_element fills element
 given-element d e bytes h = go (head_of e) refl
   where
     go : (o : Head) → head_of e ≡ o → Whole-element d e
-    go (Bad rule) q = absurd (true≢false (sym (and_left _ (is_sound (check_at (suc d) 0 e)) h) ∙ ap (fills_to (length e)) q))
-    go (Whole tag start len) q =
+    go (Err rule) q = absurd (true≢false (sym (and_left _ (is_sound (check_at (suc d) 0 e)) h) ∙ ap (fills_to (length e)) q))
+    go (Ok hd) q =
         let form = one_form e bytes q in
-        let fit : start + len ≡ length e =
-        eqb-true (start + len) (length e) (sym (ap (fills_to (length e)) q) ∙ and_left _ (is_sound (check_at (suc d) 0 e)) h) in
-        let size : length (drop start e) ≡ len = length-drop start e ∙ omega arith in
-        let is : e ≡ head_bytes tag (length (drop start e)) ++ drop start e =
-        sym (take-append-drop start e) ∙ ap (λ (l : List ℕ). l ++ drop start e) (form.0 ∙ ap (head_bytes tag) (sym size)) in
-        let small : length (drop start e) < 65536 = omega (arith, form.2) in
-        let sound : is_sound (check_at (suc d) 0 (element tag (drop start e) ++ [])) ≡ true =
-        ap (λ (l : List ℕ). is_sound (check_at (suc d) 0 l)) (append-nil (element tag (drop start e)) ∙ sym is)
+        let fit : hd.start + hd.len ≡ length e =
+        eqb-true (hd.start + hd.len) (length e) (sym (ap (fills_to (length e)) q) ∙ and_left _ (is_sound (check_at (suc d) 0 e)) h) in
+        let size : length (drop hd.start e) ≡ hd.len = length-drop hd.start e ∙ omega arith in
+        let is : e ≡ head_bytes hd.tag (length (drop hd.start e)) ++ drop hd.start e =
+        sym (take-append-drop hd.start e) ∙ ap (λ (l : List ℕ). l ++ drop hd.start e) (form.0 ∙ ap (head_bytes hd.tag) (sym size)) in
+        let small : length (drop hd.start e) < 65536 = omega (arith, form.2) in
+        let sound : is_sound (check_at (suc d) 0 (element hd.tag (drop hd.start e) ++ [])) ≡ true =
+        ap (λ (l : List ℕ). is_sound (check_at (suc d) 0 l)) (append-nil (element hd.tag (drop hd.start e)) ∙ sym is)
         ∙ and_right (fills_to (length e) (head_of e)) _ h in
-        let v : List ℕ = drop start e in
+        let v : List ℕ = drop hd.start e in
         record {
-          tag = tag;
+          tag = hd.tag;
           content = v;
           is = is;
           small = small;
-          good = good_by d tag v [] small form.1 sound (form_ok tag) (constructed tag) (content_ok tag v) refl refl refl;
+          good = good_by d hd.tag v [] small form.1 sound (form_ok hd.tag) (constructed hd.tag) (content_ok hd.tag v) refl refl refl;
         }
 
 pub given_sound : (d : ℕ) {e : List ℕ} (rest : List ℕ) → Whole-element d e → SoundAt (suc d) rest → SoundAt (suc d) (e ++ rest)

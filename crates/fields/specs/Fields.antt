@@ -1,8 +1,7 @@
 -- What the host is answered: a reading as numbers at fixed places.
 use Rattle.std.specs.Prelude.{ℕ, ◌+◌, ◌*◌, List, cond, length, set, ltb, Ok, Err}
 use Rattle.der.specs.Element.{check}
-use Rattle.der.specs.declared.element.Check.{Check}
-use Rattle.der.specs.declared.element.Check.TheVariants.{Sound, Fault}
+use Rattle.der.specs.Types.{Check}
 use Rattle.grammar.specs.declared.Span.{Span}
 use Rattle.grammar.specs.declared.Header.{Header}
 use Rattle.grammar.specs.declared.Entry.{Entry}
@@ -14,8 +13,8 @@ use Rattle.message.specs.Read.{reading_of, protected_length}
 -- ## The check
 
 abbrev pub check_number : Check → ℕ
-check_number Sound = 0
-check_number (Fault at rule) = at.0 * 8 + rule
+check_number (Ok _) = 0
+check_number (Err fault) = fault.at.0 * 8 + fault.rule
 
 unfoldable pub check_answer : List ℕ → ℕ
 check_answer s = cond (ltb 4294967295 (length s)) 7 (check_number (check s))

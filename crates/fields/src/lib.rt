@@ -7,7 +7,7 @@ ghost use Rattle.std.specs.Prelude.{◌≡◌};
 ghost use Rattle.fields.specs.Fields.{check_answer, read_answer, read_fields};
 
 use crate::places::{put_message, put_size, put_small};
-use der::element::{Check, check_elements};
+use der::element::check_elements;
 
 // How many numbers there are.
 pub const FIELDS: usize = 47;
@@ -28,8 +28,8 @@ pub fn check_number(bytes: &[u8]) -> u64
     }
     let c = check_elements(bytes);
     match c {
-        Check::Sound => 0,
-        Check::Fault(at, rule) => at.0 as u64 * 8 + widened(rule),
+        Ok(()) => 0,
+        Err(fault) => fault.at.0 as u64 * 8 + widened(fault.rule),
     }
 }
 

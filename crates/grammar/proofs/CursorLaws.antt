@@ -1,4 +1,5 @@
 -- Laws of the cursor's verbs: where an element ends, and how far a cursor moves on.
+use Rattle.std.specs.Prelude.{Ok, Err}
 use Prim.Native.Nat.{ℕ, zero, suc, ◌+◌, ◌-◌, ◌*◌, ◌/◌, ◌%◌, ◌<◌, ◌≤◌}
 use mathlib.Core.Path.{◌≡◌, refl, sym, ◌∙◌, ap}
 use mathlib.Core.List.{List}
@@ -11,8 +12,7 @@ use lib.Seq.{get_or-take, get_or-drop}
 use lib.Dec.{ltb, leb, eqb}
 use Rattle.der.specs.Head.{head_of}
 use Rattle.der.specs.Code.{packed_of}
-use Rattle.der.specs.declared.head.Head.{Head}
-use Rattle.der.specs.declared.head.Head.TheVariants.{Bad, Whole}
+use Rattle.der.specs.Types.{Head, whole_head}
 use Rattle.der.proofs.Auto.{and_left, and_right, or_false_left, or_false_right}
 use Rattle.der.proofs.HeadLaws.{cond_both, span_in_lem, whole_in, whole-tag, unpacked}
 use Rattle.grammar.specs.declared.cursor.Cursor.{Cursor}
@@ -20,11 +20,11 @@ use Rattle.grammar.specs.Code.{packed_if, tagged_of}
 use Rattle.grammar.specs.Cursor.{is_ok, head_in, fault_at, past_of, if_tag, need_of, leave_of, more_at, left_at, repeat}
 
 -- a whole element that stands between two offsets ends inside, and the second lies inside the message
-module _ (m : List ℕ) (at end : ℕ) {tag start len : ℕ} (whole : head_in m at end ≡ Whole tag start len) where
-  pub stands : (at < end) × (end ≤ length m) × (head_of (take (end - at) (drop at m)) ≡ Whole tag start len)
+module _ (m : List ℕ) (at end : ℕ) {tag start len : ℕ} (whole : head_in m at end ≡ whole_head tag start len) where
+  pub stands : (at < end) × (end ≤ length m) × (head_of (take (end - at) (drop at m)) ≡ whole_head tag start len)
   unfolding head_in
   stands =
-      cond_both (λ (h : Head). h ≡ Whole tag start len → (at < end) × (end ≤ length m) × (head_of (take (end - at) (drop at m)) ≡ Whole tag start len))
+      cond_both (λ (h : Head). h ≡ whole_head tag start len → (at < end) × (end ≤ length m) × (head_of (take (end - at) (drop at m)) ≡ whole_head tag start len))
       (leb end at || ltb (length m) end)
       (λ t q. let z : ◌≡◌ {A = ℕ} 0 1 = cc in absurd (omega arith))
       (λ t q. (leb-false _ _ (or_false_left _ (ltb (length m) end) t), ltb-false _ _ (or_false_right (leb end at) _ t), q))
@@ -45,8 +45,8 @@ unfolding tagged_of
 tagged_other m at end tag n = go (head_in m at end) refl
   where
     go : (h : Head) → head_in m at end ≡ h → packed_if tag h ≡ 0
-    go (Bad rule) q = refl
-    go (Whole t start len) q = simp (ne_eqb t tag (λ e. n (sym (head-tag m at end q) ∙ e)))
+    go (Err rule) q = refl
+    go (Ok hd) q = simp (ne_eqb hd.tag tag (λ e. n (sym (head-tag m at end q) ∙ e)))
 
 -- that byte there: the head as it is packed
 pub tagged-same : (m : List ℕ) (at end tag : ℕ) → get_or m at 0 ≡ tag → tagged_of m at end tag ≡ packed_of (head_in m at end)
@@ -54,8 +54,8 @@ unfolding tagged_of
 tagged-same m at end tag e = go (head_in m at end) refl
   where
     go : (h : Head) → head_in m at end ≡ h → packed_if tag h ≡ packed_of h
-    go (Bad rule) q = refl
-    go (Whole t start len) q = simp (eq-eqb t tag (head-tag m at end q ∙ e))
+    go (Err rule) q = refl
+    go (Ok hd) q = simp (eq-eqb hd.tag tag (head-tag m at end q ∙ e))
 
 -- what the number says: 0 that what comes next is at fault, any other where the content of what comes next is
 module _ (m : List ℕ) (tag : ℕ) (c : Cursor) {p : ℕ} (packs : p ≡ tagged_of m c.at c.end tag) where
@@ -64,10 +64,10 @@ module _ (m : List ℕ) (tag : ℕ) (c : Cursor) {p : ℕ} (packs : p ≡ tagged
   need_bad z = go (head_in m c.at c.end) refl
     where
       go : (h : Head) → head_in m c.at c.end ≡ h → if_tag tag c h ≡ fault_at c
-      go (Bad rule) q = refl
-      go (Whole t start len) q =
-          cond_both (λ (r : Cursor). r ≡ fault_at c) (eqb t tag)
-          (λ e. absurd (omega (arith, head_in_parent m c.at c.end q, sym z ∙ packs ∙ ap (packed_if tag) q ∙ ap (λ (b : Bool). cond b (len * 8 + start) 0) e)))
+      go (Err rule) q = refl
+      go (Ok hd) q =
+          cond_both (λ (r : Cursor). r ≡ fault_at c) (eqb hd.tag tag)
+          (λ e. absurd (omega (arith, head_in_parent m c.at c.end q, sym z ∙ packs ∙ ap (packed_if tag) q ∙ ap (λ (b : Bool). cond b (hd.len * 8 + hd.start) 0) e)))
           (λ e. refl)
 
   pub need_whole : (p ≡ 0 → ⊥) → (if_tag tag c (head_in m c.at c.end) ≡ past_of c (p % 8) (p / 8)) × (c.at + p % 8 + p / 8 ≤ c.end)
@@ -75,15 +75,15 @@ module _ (m : List ℕ) (tag : ℕ) (c : Cursor) {p : ℕ} (packs : p ≡ tagged
   need_whole n = go (head_in m c.at c.end) refl
     where
       go : (h : Head) → head_in m c.at c.end ≡ h → (if_tag tag c h ≡ past_of c (p % 8) (p / 8)) × (c.at + p % 8 + p / 8 ≤ c.end)
-      go (Bad rule) q = absurd (n (packs ∙ ap (packed_if tag) q))
-      go (Whole t start len) q =
-          cond_both (λ (r : Cursor). (r ≡ past_of c (p % 8) (p / 8)) × (c.at + p % 8 + p / 8 ≤ c.end)) (eqb t tag)
+      go (Err rule) q = absurd (n (packs ∙ ap (packed_if tag) q))
+      go (Ok hd) q =
+          cond_both (λ (r : Cursor). (r ≡ past_of c (p % 8) (p / 8)) × (c.at + p % 8 + p / 8 ≤ c.end)) (eqb hd.tag tag)
           (λ e.
           let w = head_in_parent m c.at c.end q in
           let s = whole_in _ refl (stands m c.at c.end q).2 in
-          let u = unpacked start len (omega arith) (packs ∙ ap (packed_if tag) q ∙ ap (λ (b : Bool). cond b (len * 8 + start) 0) e) in
+          let u = unpacked hd.start hd.len (omega arith) (packs ∙ ap (packed_if tag) q ∙ ap (λ (b : Bool). cond b (hd.len * 8 + hd.start) 0) e) in
           (rw (u.0, u.1) refl, rw (u.0, u.1) w.1))
-          (λ e. absurd (n (packs ∙ ap (packed_if tag) q ∙ ap (λ (b : Bool). cond b (len * 8 + start) 0) e)))
+          (λ e. absurd (n (packs ∙ ap (packed_if tag) q ∙ ap (λ (b : Bool). cond b (hd.len * 8 + hd.start) 0) e)))
 
 -- ## A step forward
 
@@ -96,9 +96,9 @@ pub untrue : {X : Type 0} → false ≡ true → X
 untrue e = absurd (true≢false (sym e))
 
 moved-past : (m : List ℕ) (tag : ℕ) (c : Cursor) (h : Head) → h ≡ head_in m c.at c.end → Moved c (if_tag tag c h)
-moved-past m tag c (Bad rule) e = record { end = untrue; on = untrue }
-moved-past m tag c (Whole t start len) e =
-    cond_both (Moved c) (eqb t tag)
+moved-past m tag c (Err rule) e = record { end = untrue; on = untrue }
+moved-past m tag c (Ok hd) e =
+    cond_both (Moved c) (eqb hd.tag tag)
     (λ q. record { end = λ k. refl; on = λ k. omega (arith, head_in_parent m c.at c.end (sym e)) })
     (λ q. record { end = untrue; on = untrue })
 

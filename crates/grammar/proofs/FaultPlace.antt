@@ -1,4 +1,5 @@
 -- A fault of the grammar lies in the message or at its end: whatever the bytes, no rule takes a cursor past the end, a broken one neither.
+use Rattle.std.specs.Prelude.{Ok, Err}
 use Prim.Native.Nat.{ℕ, ◌-◌, ◌≤◌}
 use mathlib.Core.List.{List}
 use mathlib.Core.Path.{◌≡◌, refl, sym}
@@ -6,8 +7,7 @@ use mathlib.Core.Bool.{◌||◌}
 use native.Mathlib.Omega.{arith}
 use lib.ListN.{length}
 use lib.Dec.{ltb, eqb}
-use Rattle.der.specs.declared.head.Head.{Head}
-use Rattle.der.specs.declared.head.Head.TheVariants.{Bad, Whole}
+use Rattle.der.specs.Types.{Head}
 use Rattle.der.proofs.HeadLaws.{cond-case}
 use Rattle.grammar.specs.declared.cursor.Cursor.{Cursor}
 use Rattle.grammar.specs.declared.parts.Each.{Each}
@@ -43,9 +43,9 @@ module _ (m : List ℕ) (n : ℕ) where
   fault c w = record { at = w.at; end = w.end; from = w.from; to = w.to }
 
   tag : (t : ℕ) (c : Cursor) (h : Head) → h ≡ head_in m c.at c.end → In c → In (if_tag t c h)
-  tag t c (Bad rule) e w = fault c w
-  tag t c (Whole u start len) e w =
-      cond-case In (eqb u t)
+  tag t c (Err rule) e w = fault c w
+  tag t c (Ok hd) e w =
+      cond-case In (eqb hd.tag t)
       (let p = head_in_parent m c.at c.end (sym e) in
       let z = w.end in
       record { at = omega arith; end = z; from = omega arith; to = omega arith })

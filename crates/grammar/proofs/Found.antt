@@ -1,5 +1,6 @@
 -- What a message's spans are worth: where the grammar is met, every place found lies inside the message and inside its parent,
 -- and the four parts stand one after another up to the message's end.
+use Rattle.std.specs.Prelude.{Ok, Err}
 use Prim.Native.Nat.{ℕ, ◌+◌, ◌-◌, ◌<◌, ◌≤◌}
 use mathlib.Core.Path.{◌≡◌, refl, sym, ◌∙◌, subst}
 use mathlib.Core.Bool.{true}
@@ -9,8 +10,7 @@ use native.Mathlib.Omega.{arith}
 use borrow.Author.Tests.{eqb-true}
 use lib.ListN.{length}
 use lib.Dec.{eqb}
-use Rattle.der.specs.declared.head.Head.{Head}
-use Rattle.der.specs.declared.head.Head.TheVariants.{Bad, Whole}
+use Rattle.der.specs.Types.{Head}
 use Rattle.der.proofs.HeadLaws.{cond_both, cond-case}
 use Rattle.grammar.specs.declared.Span.{Span}
 use Rattle.grammar.specs.declared.Message.{Message}
@@ -105,8 +105,8 @@ need_ends m tag c = cond_both Ends (is_ok c) (λ q. past (head_in m c.at c.end))
     Ends r = NoFault r → r.to ≡ r.at
 
     past : (h : Head) → Ends (if_tag tag c h)
-    past (Bad rule) = untrue
-    past (Whole t start len) = cond-case Ends (eqb t tag) (λ k. refl) untrue
+    past (Err rule) = untrue
+    past (Ok hd) = cond-case Ends (eqb hd.tag tag) (λ k. refl) untrue
 
 -- ## The theorem
 

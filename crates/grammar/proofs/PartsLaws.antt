@@ -1,4 +1,5 @@
 -- Laws of the shared grammar rules: each member of a SEQUENCE OF moves the cursor on, and a field with short lengths ends where they say.
+use Rattle.der.specs.Types.{whole_head}
 use Prim.Native.Nat.{ℕ, ◌+◌, ◌-◌, ◌<◌, ◌≤◌}
 use mathlib.Core.Path.{◌≡◌, refl, sym, ◌∙◌, ap}
 use mathlib.Core.Bool.{true, ◌&&◌}
@@ -10,7 +11,6 @@ use lib.ListN.{length, take, drop, length-drop}
 use lib.Seq.{get_or-take, get_or-drop, length-take-le}
 use lib.Dec.{eqb}
 use Rattle.der.specs.Head.{byte, tag_ok}
-use Rattle.der.specs.declared.head.Head.TheVariants.{Whole}
 use Rattle.der.proofs.Auto.{and_left, and_right}
 use Rattle.der.proofs.OneForm.{short_read}
 use Rattle.grammar.specs.declared.cursor.Cursor.{Cursor}
@@ -48,7 +48,7 @@ module _ (m : List ℕ) (at end tag : ℕ) (inside : end ≤ length m) (first : 
   byte_there : (k : ℕ) → k < 2 → byte (take (end - at) (drop at m)) k ≡ byte m (at + k)
   byte_there k h = get_or-take (end - at) (drop at m) k 0 (omega arith) ∙ get_or-drop at m k 0
 
-  head-short : head_in m at end ≡ Whole tag 2 (byte m (at + 1))
+  head-short : head_in m at end ≡ whole_head tag 2 (byte m (at + 1))
   unfolding head_in
   head-short =
       let s = take (end - at) (drop at m) in

@@ -1,5 +1,6 @@
 -- Where a cursor goes. A rule that ends with all right began with all right, went on under the same end and not past it, and
 -- what it found lies in the bytes that it passed.
+use Rattle.std.specs.Prelude.{Ok, Err}
 use Prim.Native.Nat.{ℕ, zero, suc, ◌-◌, ◌<◌, ◌≤◌, max}
 use mathlib.Core.Path.{◌≡◌, refl, sym, ◌∙◌, ap, subst}
 use mathlib.Core.List.{List}
@@ -7,8 +8,7 @@ use mathlib.Core.Bool.{true}
 use native.Mathlib.Omega.{arith}
 use borrow.Author.Tests.{ltb-false}
 use lib.Dec.{ltb, eqb}
-use Rattle.der.specs.declared.head.Head.{Head}
-use Rattle.der.specs.declared.head.Head.TheVariants.{Bad, Whole}
+use Rattle.der.specs.Types.{Head, whole_head}
 use Rattle.der.proofs.HeadLaws.{cond_both, cond-case}
 use Rattle.grammar.specs.declared.cursor.Cursor.{Cursor}
 use Rattle.grammar.specs.Cursor.{is_ok, head_in, tag_at, past_of, if_tag, need_of, any_of, none_of, maybe_of, rest_of, done_of, enter_of, leave_of, small_integer_of, more_at, repeat}
@@ -73,14 +73,14 @@ steps f k = took_went (f k)
 
 -- ## The verbs that read
 
-past_took : (m : List ℕ) (c : Cursor) {t start len : ℕ} → Whole t start len ≡ head_in m c.at c.end → NoFault c → Took c (past_of c start len)
+past_took : (m : List ℕ) (c : Cursor) {t start len : ℕ} → whole_head t start len ≡ head_in m c.at c.end → NoFault c → Took c (past_of c start len)
 past_took m c e k =
     let w = head_in_parent m c.at c.end (sym e) in
     record { along = record { ok = k; end = refl; on = omega arith; fits = omega arith }; low = omega arith; held = omega arith; high = omega arith; inside = omega arith }
 
 tag-takes : (m : List ℕ) (tag : ℕ) (c : Cursor) (h : Head) → h ≡ head_in m c.at c.end → NoFault c → Takes c (if_tag tag c h)
-tag-takes m tag c (Bad rule) e k = untrue
-tag-takes m tag c (Whole t start len) e k = cond_both (Takes c) (eqb t tag) (λ q o. past_took m c e k) (λ q. untrue)
+tag-takes m tag c (Err rule) e k = untrue
+tag-takes m tag c (Ok hd) e k = cond_both (Takes c) (eqb hd.tag tag) (λ q o. past_took m c e k) (λ q. untrue)
 
 pub need_takes : (m : List ℕ) (tag : ℕ) (c : Cursor) → Takes c (need_of m tag c)
 unfolding need_of

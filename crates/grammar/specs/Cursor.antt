@@ -1,10 +1,9 @@
 -- A cursor over a message and the verbs that every grammar rule is made of. A fault (rule 5) sticks: each verb hands a faulty
 -- cursor on, and it goes on standing where the fault is.
-use Rattle.std.specs.Prelude.{ℕ, zero, suc, ◌+◌, ◌-◌, List, Bool, cond, ◌&&◌, ◌||◌, length, get_or, take, drop, ltb, leb, eqb}
+use Rattle.std.specs.Prelude.{ℕ, zero, suc, ◌+◌, ◌-◌, List, Bool, cond, ◌&&◌, ◌||◌, length, get_or, take, drop, ltb, leb, eqb, Ok, Err}
 use Rattle.der.specs.Head.{head_of}
 use Rattle.der.specs.Integer.{signed32}
-use Rattle.der.specs.declared.head.Head.{Head}
-use Rattle.der.specs.declared.head.Head.TheVariants.{Bad, Whole}
+use Rattle.der.specs.Types.{Head}
 use Rattle.grammar.specs.declared.cursor.Cursor.{Cursor}
 use Rattle.grammar.specs.Span.{span_from, part_of}
 
@@ -14,7 +13,7 @@ is_ok c = eqb c.rule 0
 
 -- tag and length of the element at an offset, whose parent ends at another one
 unfoldable pub head_in : List ℕ → ℕ → ℕ → Head
-head_in m at end = cond (leb end at || ltb (length m) end) (Bad 2) (head_of (take (end - at) (drop at m)))
+head_in m at end = cond (leb end at || ltb (length m) end) (Err 2) (head_of (take (end - at) (drop at m)))
 
 -- the tag byte of the next element; 0, which is no tag, where nothing is left
 unfoldable pub tag_at : List ℕ → Cursor → ℕ
@@ -30,8 +29,8 @@ past_of c start len = record { at = c.at + start + len; end = c.end; from = c.at
 
 -- past it where its tag is the one asked
 abbrev pub if_tag : ℕ → Cursor → Head → Cursor
-if_tag tag c (Bad rule) = fault_at c
-if_tag tag c (Whole t start len) = cond (eqb t tag) (past_of c start len) (fault_at c)
+if_tag tag c (Err rule) = fault_at c
+if_tag tag c (Ok whole) = cond (eqb whole.tag tag) (past_of c whole.start whole.len) (fault_at c)
 
 -- an element with this tag comes next
 unfoldable pub need_of : List ℕ → ℕ → Cursor → Cursor

@@ -11,8 +11,8 @@ use lib.ListN.{length}
 use lib.Dec.{ltb, eqb}
 use Rattle.der.specs.Element.{max_depth, check, is_sound}
 use Rattle.der.specs.declared.Offset.{Offset}
-use Rattle.der.specs.declared.element.Check.{Check}
-use Rattle.der.specs.declared.element.Check.TheVariants.{Sound, Fault}
+use Rattle.der.specs.declared.element.FirstFault.{FirstFault}
+use Rattle.der.specs.Types.{Check, fault_by}
 use Rattle.der.proofs.Auto.{or_cases, or_false_left, or_false_right}
 use Rattle.der.proofs.HeadLaws.{cond_both}
 use Rattle.der.proofs.ElementLaws.{fault_in}
@@ -43,16 +43,16 @@ Broken m = (is_sound (check m) ≡ false) ⊎ Unmet m
 pub record CleanOf (m : List ℕ) (x : Message) : Type 0 where
   pub some : 1 ≤ length m
   pub few : length m ≤ max_message
-  pub sound : check m ≡ Sound
+  pub sound : check m ≡ (Ok tt)
   pub met : (message_of m).met ≡ true
   pub found : x ≡ (message_of m).found
 
 -- the fault at this offset, of this rule, is the lowest of the two, DER's (rules 1 to 4) where the grammar's (rule 5) stands at the
 -- same offset
 pub record Lowest (m : List ℕ) (at rule : ℕ) : Type 0 where
-  pub der : (a : Offset) (q : ℕ) → check m ≡ Fault a q → at ≤ a.0
+  pub der : (a : Offset) (q : ℕ) → check m ≡ fault_by a q → at ≤ a.0
   pub grammar : Unmet m → at ≤ (message_of m).at.0
-  pub named : ((check m ≡ Fault (record { 0 = at }) rule) × (1 ≤ rule) × (rule ≤ 4)) ⊎ (Unmet m × (at ≡ (message_of m).at.0) × (rule ≡ 5) × ((a : Offset) (q : ℕ) → check m ≡ Fault a q → at < a.0))
+  pub named : ((check m ≡ fault_by (record { 0 = at }) rule) × (1 ≤ rule) × (rule ≤ 4)) ⊎ (Unmet m × (at ≡ (message_of m).at.0) × (rule ≡ 5) × ((a : Offset) (q : ℕ) → check m ≡ fault_by a q → at < a.0))
 
 -- refusal 2 is of a message of 1 to max_message bytes and names the lowest fault
 pub record BrokenAt (m : List ℕ) (r : ReadFault) : Type 0 where
@@ -68,10 +68,13 @@ Says m (Err r) = ((r.number ≡ 1) × NoLength m) ⊎ BrokenAt m r
 
 -- ## Each case
 
-same_at : {v : Check} {a b : Offset} {q p : ℕ} → v ≡ Fault a q → v ≡ Fault b p → a.0 ≡ b.0
-same_at e g = cc
+same_fault : {v : Check} {x y : FirstFault} → v ≡ Err x → v ≡ Err y → x ≡ y
+same_fault e g = cc
 
-no_fault_lem : {v : Check} {a : Offset} {q : ℕ} → v ≡ Sound → v ≡ Fault a q → ⊥
+same_at : {v : Check} {a b : Offset} {q p : ℕ} → v ≡ fault_by a q → v ≡ fault_by b p → a.0 ≡ b.0
+same_at e g = ap (λ (f : FirstFault). f.at.0) (same_fault e g)
+
+no_fault_lem : {v : Check} {a : Offset} {q : ℕ} → v ≡ (Ok tt) → v ≡ fault_by a q → ⊥
 no_fault_lem e g = let z : ◌≡◌ {A = ℕ} 0 1 = cc in omega arith
 
 module _ (m : List ℕ) (some : 1 ≤ length m) (few : length m ≤ max_message) where
@@ -80,24 +83,24 @@ module _ (m : List ℕ) (some : 1 ≤ length m) (few : length m ≤ max_message)
   says_broken l = inr (record { some = some; few = few; number = refl; lowest = l })
 
   -- DER's fault, where the grammar is met or broken no earlier
-  of_der : {a : Offset} {q : ℕ} → check m ≡ Fault a q → (Unmet m → a.0 ≤ (message_of m).at.0) → Lowest m a.0 q
+  of_der : {a : Offset} {q : ℕ} → check m ≡ fault_by a q → (Unmet m → a.0 ≤ (message_of m).at.0) → Lowest m a.0 q
   of_der {a} {q} e f = record { der = λ b p g. omega (arith, same_at e g); grammar = f; named = inl (e, (check_rule m e).0, (check_rule m e).1) }
 
   -- the grammar's fault, where there is none of DER's or a later one
-  of_grammar : Unmet m → ((a : Offset) (q : ℕ) → check m ≡ Fault a q → (message_of m).at.0 < a.0) → Lowest m (message_of m).at.0 5
+  of_grammar : Unmet m → ((a : Offset) (q : ℕ) → check m ≡ fault_by a q → (message_of m).at.0 < a.0) → Lowest m (message_of m).at.0 5
   of_grammar u f = record { der = λ a q e. omega (arith, f a q e); grammar = λ w. omega arith; named = inr (u, refl, refl, f) }
 
   says-lowest : (v : Check) → check m ≡ v → Says m (lowest v (message_of m))
   unfolding lowest Says
-  says-lowest Sound e =
+  says-lowest (Ok _) e =
       cond_both (Says m) (message_of m).met
       (λ k. record { some = some; few = few; sound = e; met = k; found = refl })
       (λ k. says_broken (of_grammar k (λ a q g. absurd (no_fault_lem e g))))
-  says-lowest (Fault a q) e =
+  says-lowest (Err ft) e =
       cond_both (Says m) (message_of m).met (λ k. says_broken (of_der e (λ u. absurd (true≢false (sym k ∙ u)))))
-      (λ k. cond_both (Says m) (ltb (message_of m).at.0 a.0)
-      (λ t. says_broken (of_grammar k (λ b p g. omega (arith, ltb-true (message_of m).at.0 a.0 t, same_at e g))))
-      (λ t. says_broken (of_der e (λ u. ltb-false (message_of m).at.0 a.0 t))))
+      (λ k. cond_both (Says m) (ltb (message_of m).at.0 ft.at.0)
+      (λ t. says_broken (of_grammar k (λ b p g. omega (arith, ltb-true (message_of m).at.0 ft.at.0 t, same_at e g))))
+      (λ t. says_broken (of_der e (λ u. ltb-false (message_of m).at.0 ft.at.0 t))))
 
 says : (m : List ℕ) → Says m (reading_of m)
 unfolding reading_of Says

@@ -2,8 +2,7 @@
 use Rattle.std.specs.Prelude.{ℕ, ◌+◌, List, cond, ◌||◌, length, ltb, eqb, Ok, Err}
 use Rattle.der.specs.declared.Offset.{Offset}
 use Rattle.der.specs.Element.{check}
-use Rattle.der.specs.declared.element.Check.{Check}
-use Rattle.der.specs.declared.element.Check.TheVariants.{Sound, Fault}
+use Rattle.der.specs.Types.{Check}
 use Rattle.grammar.specs.declared.Message.{Message}
 use Rattle.message.specs.Types.{Reading}
 use Rattle.grammar.specs.declared.pki_message.MessageRead.{MessageRead}
@@ -23,8 +22,8 @@ broken_at at rule = Err (record { number = 2; at = at; rule = rule })
 
 -- the lower of the two faults, if there is one; at one offset DER's rules 1 to 4 come before the grammar's 5
 unfoldable pub lowest : Check → MessageRead → Reading
-lowest Sound g = cond g.met (Ok g.found) (broken_at g.at 5)
-lowest (Fault at rule) g = cond g.met (broken_at at rule) (cond (ltb g.at.0 at.0) (broken_at g.at 5) (broken_at at rule))
+lowest (Ok _) g = cond g.met (Ok g.found) (broken_at g.at 5)
+lowest (Err fault) g = cond g.met (broken_at fault.at fault.rule) (cond (ltb g.at.0 fault.at.0) (broken_at g.at 5) (broken_at fault.at fault.rule))
 
 unfoldable pub reading_of : List ℕ → Reading
 reading_of m = cond (eqb (length m) 0 || ltb max_message (length m)) bad_length (lowest (check m) (message_of m))

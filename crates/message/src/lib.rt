@@ -3,6 +3,7 @@
 
 ghost use Rattle.std.specs.Prelude.{◌≡◌};
 ghost use Rattle.grammar.specs.Span.{part_of};
+ghost use Rattle.der.specs.Types.{fault_by};
 ghost use Rattle.message.specs.Read.{bad_length, broken_at, lowest, reading_of, protected_length};
 
 use der::Offset;
@@ -35,7 +36,7 @@ fn broken_at(at: Offset, rule: u8) -> Reading
 }
 
 fn lower(at: Offset, rule: u8, g: MessageRead) -> Reading
-    ensures { result ≡ lowest (Check.Fault at rule) g }
+    ensures { result ≡ lowest (fault_by at rule) g }
 {
     let stop = g.at;
     if g.met {
@@ -51,8 +52,8 @@ fn lowest_fault(c: Check, g: MessageRead) -> Reading
     ensures { result ≡ lowest c g }
 {
     match c {
-        Check::Fault(at, rule) => lower(at, rule, g),
-        Check::Sound => {
+        Err(fault) => lower(fault.at, fault.rule, g),
+        Ok(()) => {
             if g.met {
                 let found = g.found;
                 return Ok(found);

@@ -1,5 +1,6 @@
 -- An element that a walk finds stands in the message, and its bytes are one element. None but the message begins at 0, so that a
 -- start of 0 says that nothing was found.
+use Rattle.std.specs.Prelude.{Ok, Err}
 use Prim.Native.Nat.{ℕ, zero, suc, ◌+◌, ◌-◌, ◌<◌, ◌≤◌}
 use mathlib.Core.Path.{◌≡◌, refl, sym, ◌∙◌, ap, subst}
 use mathlib.Core.List.{List, [], ◌∷◌}
@@ -13,8 +14,7 @@ use lib.Seq.{take-take, take_all}
 use lib.Dec.{eqb}
 use Rattle.grammar.specs.Span.{part_of, span_from}
 use Rattle.der.specs.Head.{head_of}
-use Rattle.der.specs.declared.head.Head.{Head}
-use Rattle.der.specs.declared.head.Head.TheVariants.{Bad, Whole}
+use Rattle.der.specs.Types.{Head, whole_head}
 use Rattle.der.proofs.Auto.{and_left, and_right}
 use Rattle.der.proofs.HeadLaws.{cond_both, cond-case, whole_in}
 use Rattle.grammar.specs.declared.Span.{Span}
@@ -35,7 +35,7 @@ pub record Stands (m : List ℕ) (a : ℕ) (n : Node) : Type 0 where
   pub from : n.at < n.from
   pub to : n.from ≤ n.to
   pub end : n.to ≤ length m
-  pub head : head_of (take (n.to - n.at) (drop n.at m)) ≡ Whole n.tag (n.from - n.at) (n.to - n.from)
+  pub head : head_of (take (n.to - n.at) (drop n.at m)) ≡ whole_head n.tag (n.from - n.at) (n.to - n.from)
 
 lower : {m : List ℕ} {a b : ℕ} {n : Node} → a ≤ b → Stands m b n → Stands m a n
 lower h s = record { low = omega (arith, s.low); from = s.from; to = s.to; end = s.end; head = s.head }
@@ -53,12 +53,12 @@ module _ (m : List ℕ) where
   every_lower a b h [] w = tt
   every_lower a b h (n ∷ ns) w = (lower h w.0, every_lower a b h ns w.1)
 
-  head_stands : (e a : ℕ) {t start len : ℕ} → head_of (take (e - a) (drop a m)) ≡ Whole t start len
+  head_stands : (e a : ℕ) {t start len : ℕ} → head_of (take (e - a) (drop a m)) ≡ whole_head t start len
       → Stands m a (record { tag = t; at = a; from = a + start; to = a + start + len })
   head_stands e a {t} {start} {len} q =
       let w = whole_in (take (e - a) (drop a m)) refl q in
       let size : start + len ≤ e - a = omega (arith, w.2, length-take (e - a) (drop a m)) in
-      let one : head_of (take (start + len) (drop a m)) ≡ Whole t start len =
+      let one : head_of (take (start + len) (drop a m)) ≡ whole_head t start len =
       ap head_of (sym (take-take (start + len) (e - a) (drop a m) size)) ∙ cut (take (e - a) (drop a m)) q in
       let x : a + start + len - a ≡ start + len = omega arith in
       let y : a + start - a ≡ start = omega arith in
@@ -77,9 +77,9 @@ module _ (m : List ℕ) where
   every_row e (suc n) a = go (head_of (take (e - a) (drop a m))) refl (every_row e n)
     where
       go : (o : Head) → head_of (take (e - a) (drop a m)) ≡ o → ((b : ℕ) → Every b (elements_up_to m e n b)) → Every a (with_head (elements_up_to m e n) a o)
-      go (Bad rule) q f = tt
-      go (Whole t start len) q f =
-          let b : ℕ = a + start + len in
+      go (Err rule) q f = tt
+      go (Ok hd) q f =
+          let b : ℕ = a + hd.start + hd.len in
           (head_stands e a q, every_lower a b (omega arith) (elements_up_to m e n b) (f b))
 
   module _ (a : ℕ) where

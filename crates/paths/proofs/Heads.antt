@@ -1,4 +1,5 @@
 -- A head is read from its own bytes: where what follows an element is cut off, the same element is read.
+use Rattle.std.specs.Prelude.{Ok, Err}
 use Prim.Native.Nat.{ℕ, ◌+◌, ◌*◌, ◌<◌, ◌≤◌}
 use mathlib.Core.Path.{◌≡◌, refl, subst}
 use mathlib.Core.List.{List}
@@ -9,33 +10,32 @@ use lib.ListN.{length, take}
 use lib.Seq.{get_or-take, length-take-le}
 use lib.Dec.{ltb, leb, eqb, lit<}
 use Rattle.der.specs.Head.{byte, tag_ok, inside, length81, length82, length_of, head_of}
-use Rattle.der.specs.declared.head.Head.{Head}
-use Rattle.der.specs.declared.head.Head.TheVariants.{Bad, Whole}
+use Rattle.der.specs.Types.{Head, whole_head}
 use Rattle.der.proofs.Auto.{or_false_right}
 use Rattle.der.proofs.HeadLaws.{cond_both, cond-case, whole_in}
 
 -- a head of s is read from t as well, where t has the head's bytes and room for the content
 unfoldable Reads : List ℕ → List ℕ → Head → Type 0
-Reads s t (Bad rule) = Unit {0}
-Reads s t (Whole tag start len) = ((i : ℕ) → i < start → byte t i ≡ byte s i) → start + len ≤ length t → head_of t ≡ Whole tag start len
+Reads s t (Err rule) = Unit {0}
+Reads s t (Ok hd) = ((i : ℕ) → i < hd.start → byte t i ≡ byte s i) → hd.start + hd.len ≤ length t → head_of t ≡ whole_head hd.tag hd.start hd.len
 
 module _ (s t : List ℕ) where
-  bad : (rule : ℕ) → Reads s t (Bad rule)
+  bad : (rule : ℕ) → Reads s t (Err rule)
   unfolding Reads
   bad rule = tt
 
-  inside-reads : (start len : ℕ) → Reads s t (Whole (byte s 0) start len) → Reads s t (inside (length s) (byte s 0) start len)
+  inside-reads : (start len : ℕ) → Reads s t (whole_head (byte s 0) start len) → Reads s t (inside (length s) (byte s 0) start len)
   unfolding inside
   inside-reads start len r = cond-case (Reads s t) (leb (start + len) (length s)) r (bad 2)
 
   module _ (ok : tag_ok (byte s 0) ≡ true) where
-    short-reads : byte s 1 < 128 → Reads s t (Whole (byte s 0) 2 (byte s 1))
+    short-reads : byte s 1 < 128 → Reads s t (whole_head (byte s 0) 2 (byte s 1))
     unfolding Reads head_of length_of inside
     short-reads h same fits =
         simp
         (same 0 (lit< tt), same 1 (lit< tt), ne_eqb (length t) 0 (λ z. omega arith), ok, le-ltb (length t) 2 (omega arith), lt-ltb (byte s 1) 128 h, le-leb (2 + byte s 1) (length t) fits)
 
-    one-reads : byte s 1 ≡ 129 → 128 ≤ byte s 2 → Reads s t (Whole (byte s 0) 3 (byte s 2))
+    one-reads : byte s 1 ≡ 129 → 128 ≤ byte s 2 → Reads s t (whole_head (byte s 0) 3 (byte s 2))
     unfolding Reads head_of length_of length81 inside
     one-reads e h same fits =
         simp (
@@ -51,7 +51,7 @@ module _ (s t : List ℕ) where
           le-leb (3 + byte s 2) (length t) fits,
         )
 
-    two-reads : byte s 1 ≡ 130 → 0 < byte s 2 → Reads s t (Whole (byte s 0) 4 (byte s 2 * 256 + byte s 3))
+    two-reads : byte s 1 ≡ 130 → 0 < byte s 2 → Reads s t (whole_head (byte s 0) 4 (byte s 2 * 256 + byte s 3))
     unfolding Reads head_of length_of length82 inside
     two-reads e h same fits =
         simp (
@@ -87,7 +87,7 @@ module _ (s t : List ℕ) where
   head-reads = cond-case (Reads s t) (eqb (length s) 0) (bad 2) (cond_both (Reads s t) (tag_ok (byte s 0)) (λ ok. length-reads ok) (λ e. bad 1))
 
 -- the bytes of an element alone
-pub cut : (s : List ℕ) {tag start len : ℕ} → head_of s ≡ Whole tag start len → head_of (take (start + len) s) ≡ Whole tag start len
+pub cut : (s : List ℕ) {tag start len : ℕ} → head_of s ≡ whole_head tag start len → head_of (take (start + len) s) ≡ whole_head tag start len
 unfolding Reads
 cut s {tag} {start} {len} e =
     let t : List ℕ = take (start + len) s in

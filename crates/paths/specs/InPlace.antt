@@ -1,8 +1,8 @@
 -- Demand 2, "each field is found exactly where the standard puts it": what holds of a message x that was read from the bytes m.
+use Rattle.der.specs.Types.{whole_head}
 use Rattle.std.specs.Prelude.{ℕ, ◌+◌, ◌≤◌, ◌≡◌, List, ◌↔◌, ◌≢◌, length, Ok}
 use Rattle.std.proofs.Math.Option.{none}
 use Rattle.der.specs.Head.{head_of}
-use Rattle.der.specs.declared.head.Head.TheVariants.{Whole}
 use Rattle.grammar.specs.declared.Span.{Span}
 use Rattle.grammar.specs.Span.{part_of}
 use Rattle.grammar.specs.declared.Message.{Message}
@@ -45,7 +45,7 @@ AsTheStandardSays = (m : List ℕ) (x : Message) → reading_of m ≡ Ok x → I
 pub record OneElement (tag : ℕ) (s : List ℕ) : Type 0 where
   pub start : ℕ
   pub len : ℕ
-  pub head : head_of s ≡ Whole tag start len
+  pub head : head_of s ≡ whole_head tag start len
   pub ends : start + len ≡ length s
 
 -- the tags of a GeneralName (RFC 5280 4.2.1.6), which is a CHOICE

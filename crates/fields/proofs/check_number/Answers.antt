@@ -13,19 +13,19 @@ returns-then-bytes-gt4294967295 c =
 pub overflow_mul-result : goal.overflow_mul-result
 unfolding check_answer check
 overflow_mul-result c =
-    omega (arith, fault_in _ 0 c.args.bytes.now (told c.check_elements-c.ensures c.in-Fault.is))
+    omega (arith, fault_in _ 0 c.args.bytes.now (told c.check_elements-c.ensures c.in-Err.is))
 
 pub overflow_add-result : goal.overflow_add-result
 unfolding check_answer check
 overflow_add-result c =
-    omega (arith, fault_in _ 0 c.args.bytes.now (told c.check_elements-c.ensures c.in-Fault.is))
+    omega (arith, fault_in _ 0 c.args.bytes.now (told c.check_elements-c.ensures c.in-Err.is))
 
-pub returns-in-Sound : goal.returns-in-Sound
+pub returns-in-Ok : goal.returns-in-Ok
 unfolding check_answer check
-returns-in-Sound c =
-    search (tests, told c.check_elements-c.ensures c.in-Sound.is)
+returns-in-Ok c =
+    search (tests, told c.check_elements-c.ensures c.in-Ok.is)
 
-pub returns-in-Fault : goal.returns-in-Fault
+pub returns-in-Err : goal.returns-in-Err
 unfolding check_answer check
-returns-in-Fault c =
-    search (tests, c.widened.ensures, told c.check_elements-c.ensures c.in-Fault.is)
+returns-in-Err c =
+    search (tests, c.widened.ensures, told c.check_elements-c.ensures c.in-Err.is)

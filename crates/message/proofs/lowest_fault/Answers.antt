@@ -5,14 +5,14 @@ use Rattle.message.proofs.lowest_fault.Goals as goal
 pub returns-then-g : goal.returns-then-g
 unfolding lowest
 returns-then-g c =
-    search (tests, c.in-Sound.is, c.if-g.true)
+    search (tests, c.in-Ok.is, c.if-g.true)
 
-pub returns-in-Fault : goal.returns-in-Fault
+pub returns-in-Err : goal.returns-in-Err
 unfolding lowest
-returns-in-Fault c =
-    search (tests, ← c.lower.ensures, c.in-Fault.is)
+returns-in-Err c =
+    search (tests, ← c.lower.ensures, c.in-Err.is)
 
 pub returns-else-g : goal.returns-else-g
 unfolding lowest
 returns-else-g c =
-    search (tests, c.broken_at.ensures, c.in-Sound.is, c.if-g.false)
+    search (tests, c.broken_at.ensures, c.in-Ok.is, c.if-g.false)

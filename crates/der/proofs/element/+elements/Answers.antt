@@ -1,4 +1,5 @@
 -- A round of the loop: what was read of a length, what the element there is, and that the loop goes on past it or answers its fault.
+use Rattle.std.specs.Prelude.{Ok, Err}
 use Prim.Native.Nat.{ℕ, ◌+◌, ◌-◌, ◌*◌, ◌/◌, ◌%◌, ◌<◌, ◌≤◌}
 use mathlib.Core.List.{List}
 use mathlib.Core.Path.{◌≡◌, ◌∙◌, refl, sym, ap}
@@ -14,8 +15,7 @@ use Rattle.der.proofs.ElementLaws.{tail_is, up_to, answer_above, Stands, standin
 use Rattle.der.proofs.ElementLaws.{Found, ends_in_lem, goes_on, holds_in, goes_past, hands_on, at_faulty, check-end}
 use Rattle.der.specs.Head.{byte, length_of, head_of}
 use Rattle.der.specs.declared.Offset.{Offset}
-use Rattle.der.specs.declared.element.Check.{Check}
-use Rattle.der.specs.declared.element.Check.TheVariants.{Sound, Fault}
+use Rattle.der.specs.Types.{Check, fault_by}
 use Rattle.der.specs.declared.element.Element.TheVariants.{Faulty}
 use Rattle.der.proofs.HeadLaws.{length_bad}
 use Rattle.der.specs.Element.{element_of, check_at}
@@ -49,10 +49,10 @@ fault_here m from depth i level here w faulty =
     (ap (answer_of (length m)) (sym (rw zero-add at (at_faulty depth m 0 i {whole = check_at depth from (drop from m)} refl here (standing m from depth i here w) faulty))))
 
 -- the loop after a call on what the element holds, by what the call found
-past_call : (m : List ℕ) (from depth to : ℕ) {r : ℕ} (v : Check) → r ≡ answer_of to v → (v ≡ Sound → check_at depth from (drop from m) ≡ check_at depth (0 + to) (drop to m)) → ((at : Offset) (rule : ℕ) → v ≡ Fault at rule → v ≡ check_at depth from (drop from m)) → to ≤ length m → length m < faults → Stands m from depth r
+past_call : (m : List ℕ) (from depth to : ℕ) {r : ℕ} (v : Check) → r ≡ answer_of to v → (v ≡ (Ok tt) → check_at depth from (drop from m) ≡ check_at depth (0 + to) (drop to m)) → ((at : Offset) (rule : ℕ) → v ≡ fault_by at rule → v ≡ check_at depth from (drop from m)) → to ≤ length m → length m < faults → Stands m from depth r
 unfolding answer_of
-past_call m from depth to Sound e past on h k = inl (omega arith, rw e (past refl))
-past_call m from depth to (Fault at rule) e past on h k = inr (omega arith, e ∙ ap (answer_of (length m)) (on at rule refl))
+past_call m from depth to (Ok _) e past on h k = inl (omega arith, rw e (past refl))
+past_call m from depth to (Err ft) e past on h k = inr (omega arith, e ∙ ap (answer_of (length m)) (on ft.at ft.rule refl))
 
 past_constructed : (m : List ℕ) (from depth i start len k r : ℕ) → Found depth m 0 i start len k (check_at depth from (drop from m)) → (k ≡ 2 → ⊥) → (k ≡ 0 → ⊥) → length m < faults → r ≡ answer_of (length (take (i + start + len) m)) (check_at (depth - 1) (i + start) (drop (i + start) (take (i + start + len) m))) → Stands m from depth r
 past_constructed m from depth i start len k r f sound n small e =

@@ -1,8 +1,8 @@
+use Rattle.der.specs.Types.{fault_by}
 use Rattle.der.proofs.Auto.{tests}
 use Prim.Native.Nat.{◌/◌, ◌-◌}
 use mathlib.Core.Path.{◌∙◌, sym, ap}
 use native.Mathlib.Omega.{arith}
-use Rattle.der.specs.declared.element.Check.TheVariants.{Fault}
 use Rattle.der.specs.Code.{faults}
 use Rattle.der.specs.Element.{check}
 use Rattle.der.proofs.RuleLaws.{answer_sound, answer-fault}
@@ -27,4 +27,4 @@ pub returns : goal.returns
 unfolding check
 returns c =
     let called = c in
-    ap (Fault (record { 0 = (called.elements-p.result - faults) / 8 })) c.low.ensures ∙ sym (answer-fault _ _ _ _ called.if-s-ge-FAULTS.false called.elements-p.ensures c.if-p-lt-FAULTS.false)
+    ap (fault_by (record { 0 = (called.elements-p.result - faults) / 8 })) c.low.ensures ∙ sym (answer-fault _ _ _ _ called.if-s-ge-FAULTS.false called.elements-p.ensures c.if-p-lt-FAULTS.false)

@@ -7,14 +7,14 @@ use Rattle.der.proofs.element.fills.Goals as goal
 pub overflow_add-result : goal.overflow_add-result
 unfolding fills
 overflow_add-result c =
-    omega (arith, whole_in _ c.read-h.ensures c.in-Whole.is)
+    omega (arith, whole_in _ c.read.ensures c.in-Ok.is)
 
-pub returns-in-Bad : goal.returns-in-Bad
+pub returns-in-Err : goal.returns-in-Err
 unfolding fills
-returns-in-Bad c =
-    search (tests, told c.read-h.ensures c.in-Bad.is)
+returns-in-Err c =
+    search (tests, told c.read.ensures c.in-Err.is)
 
-pub returns-in-Whole : goal.returns-in-Whole
+pub returns-in-Ok : goal.returns-in-Ok
 unfolding fills
-returns-in-Whole c =
-    search (tests, told c.read-h.ensures c.in-Whole.is)
+returns-in-Ok c =
+    search (tests, told c.read.ensures c.in-Ok.is)

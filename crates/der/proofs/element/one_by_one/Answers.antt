@@ -1,8 +1,8 @@
+use Rattle.der.specs.Types.{fault_by}
 use Prim.Native.Nat.{◌+◌, ◌-◌, ◌/◌}
 use mathlib.Core.Path.{◌∙◌, sym, ap, refl}
 use native.Mathlib.Nat.{zero-add}
 use native.Mathlib.Omega.{arith}
-use Rattle.der.specs.declared.element.Check.TheVariants.{Fault}
 use Rattle.der.specs.Element.{max_depth, check}
 use Rattle.der.specs.Code.{faults}
 use Rattle.der.proofs.ElementLaws.{check-end}
@@ -20,7 +20,7 @@ overflow_add-result c =
 pub returns-then-p-ge-FAULTS : goal.returns-then-p-ge-FAULTS
 returns-then-p-ge-FAULTS c =
     let at = c.loop-i.i + (c.first-p.result - faults) / 8 in
-    ap (Fault (record { 0 = at })) c.low.ensures
+    ap (fault_by (record { 0 = at })) c.low.ensures
     ∙ sym (first_stops c.args.s.now c.loop-i.i (λ i. omega (arith, c.type_inv.s i)) c.loop-i-test.true c.loop-i.invariant.1 c.first-p.ensures c.if-p-ge-FAULTS.true).1
 
 pub overflow_add-i : goal.overflow_add-i
