@@ -56,7 +56,7 @@ pub record Said : Type 0 where
 pub record Shown (m : List ℕ) (s : Said) (count : ℕ) (e : Entry) : Type 0 where
   pub entries : count ≡ s.entries
   pub number : e.number ≡ s.number
-  pub status : optional_status e.has_status e.status ≡ s.status
+  pub status : optional_status e.status ≡ s.status
   pub hash : ShowsIf m e.cert_hash s.hash
   pub hash_alg : ShowsIf m e.hash_alg none
   pub certificate : ShowsIf m e.certificate s.certificate

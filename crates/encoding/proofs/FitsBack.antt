@@ -138,7 +138,7 @@ order-fits : (m : List ℕ) (x : Message) (f : FailureInfo) → Kind x.body.kind
 unfolding order_of contents_read read
 order-fits m x f k =
     let e : Entry = x.body.entry in
-    let status : ℕ = status_or0 (optional_status e.has_status e.status) in
+    let status : ℕ = status_or0 (optional_status e.status) in
     rw (
       nonce-unset (is_present x.header.recip_nonce) (record { bytes = part_of m x.header.recip_nonce }),
       read_fits x.body.kind k e.number status (record { bytes = part_of m e.cert_hash }) f,

@@ -89,7 +89,7 @@ module _ (m : List ℕ) (few : length m < 65536) where
   pub record StatusIs (c : Cursor) (i : Status) (s : Option ℕ) (rest : List ℕ) : Type 0 where
     pub left : Holds m i.cur rest
     pub end : i.cur.end ≡ c.end
-    pub says : optional_status i.given i.value ≡ s
+    pub says : optional_status i.status ≡ s
 
   pub status-is : (s : ℕ) (f : Option (List ℕ)) (c : Cursor) (rest : List ℕ) → s < 4294967296 → LastSet f
       → Holds m c (status_bytes s f ++ rest) → StatusIs c (status_of m c) (some s) rest

@@ -1,5 +1,5 @@
 -- WRITTEN: what is written without a refusal reads clean and gives the order and the given parts back; it is a message issued.
-use Rattle.std.specs.Prelude.{Ok}
+use Rattle.std.specs.Prelude.{Ok, Some, None}
 use Prim.Native.Nat.{ℕ}
 use mathlib.Core.Path.{◌≡◌, refl, sym, ◌∙◌, ap, subst}
 use mathlib.Core.List.{List}
@@ -16,6 +16,7 @@ use Rattle.grammar.specs.declared.Message.{Message}
 use Rattle.grammar.specs.Span.{part_of}
 use Rattle.message.specs.Types.{Reading}
 use Rattle.message.specs.Read.{reading_of}
+use Rattle.protocol.specs.Types.{GivenStatus}
 use Rattle.protocol.specs.declared.OutgoingContents.{OutgoingContents}
 use Rattle.protocol.specs.declared.Outgoing.{Outgoing}
 use Rattle.protocol.specs.Bytes.{bytes_of, zeros, no_nonce}
@@ -55,15 +56,15 @@ is_some : Option ℕ → Bool
 is_some none = false
 is_some (some s) = true
 
-status_there : (given : Bool) (value s : ℕ) → optional_status given value ≡ some s → (given ≡ true) × (value ≡ s)
+status_there : (o : GivenStatus) (s : ℕ) → optional_status o ≡ some s → o ≡ Some s
 unfolding is_some
-status_there true value s e = (refl, cc e)
-status_there false value s e = absurd (true≢false (sym (ap is_some e)))
+status_there (Some v) s e = let same : v ≡ s = cc e in ap Some same
+status_there None s e = absurd (true≢false (sym (ap is_some e)))
 
-status-absent : (given : Bool) (value : ℕ) → optional_status given value ≡ none → given ≡ false
+status-absent : (o : GivenStatus) → optional_status o ≡ none → o ≡ None
 unfolding is_some
-status-absent true value e = absurd (true≢false (ap is_some e))
-status-absent false value e = refl
+status-absent (Some v) e = absurd (true≢false (ap is_some e))
+status-absent None e = refl
 
 -- ## The order
 
@@ -165,10 +166,10 @@ module _ (g : Given) (o : Outgoing) (types : OrderTyped o) (unset : Unset o) (r 
   e = x.body.entry
 
   status_carried : StatusSaid o.kind r.said.status o.contents.status
-      → ((e.has_status ≡ true) × (e.status ≡ o.contents.status))
-      ⊎ ((x.body.kind ≡ 24) × (e.has_status ≡ false) × (o.contents.status ≡ 0))
-  status_carried (inl p) = inl (status_there e.has_status e.status o.contents.status (b.says.status ∙ p))
-  status_carried (inr p) = inr (b.kind ∙ p.0, status-absent e.has_status e.status (b.says.status ∙ p.1), p.2)
+      → (e.status ≡ Some o.contents.status)
+      ⊎ ((x.body.kind ≡ 24) × (e.status ≡ None) × (o.contents.status ≡ 0))
+  status_carried (inl p) = inl (status_there e.status o.contents.status (b.says.status ∙ p))
+  status_carried (inr p) = inr (b.kind ∙ p.0, status-absent e.status (b.says.status ∙ p.1), p.2)
 
   carries : Carries m x o
   unfolding ShowsIf m

@@ -50,7 +50,7 @@ pub record OrderTyped (o : Outgoing) : Type 0 where
 unfoldable pub contents_read : List ℕ → Message → FailureInfo → OutgoingContents
 contents_read bytes m f =
     let e : Entry = m.body.entry in
-    let status : ℕ = status_or0 (optional_status e.has_status e.status) in
+    let status : ℕ = status_or0 (optional_status e.status) in
     cond (is_response m.body.kind) (with_number e.number (with_status status no_contents))
     (cond (eqb m.body.kind cert_conf)
     (with_number e.number (with_hash (record { bytes = part_of bytes e.cert_hash }) (with_status status no_contents)))

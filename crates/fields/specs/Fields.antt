@@ -1,5 +1,5 @@
 -- What the host is answered: a reading as numbers at fixed places.
-use Rattle.std.specs.Prelude.{ℕ, ◌+◌, ◌*◌, List, cond, length, set, ltb, Ok, Err}
+use Rattle.std.specs.Prelude.{ℕ, ◌+◌, ◌*◌, List, cond, length, set, ltb, Ok, Err, is_some, unwrap_or}
 use Rattle.der.specs.Element.{check}
 use Rattle.der.specs.Types.{Check}
 use Rattle.grammar.specs.declared.Span.{Span}
@@ -54,8 +54,8 @@ put_ids h l =
 unfoldable pub put_entry : Entry → List ℕ → List ℕ
 put_entry e l =
     let l1 : List ℕ = put_number 35 e.number l in
-    let l2 : List ℕ = put_number 36 (cond e.has_status 1 0) l1 in
-    let l3 : List ℕ = put_number 37 e.status l2 in
+    let l2 : List ℕ = put_number 36 (cond (is_some e.status) 1 0) l1 in
+    let l3 : List ℕ = put_number 37 (unwrap_or e.status 0) l2 in
     let l4 : List ℕ = put_span 38 39 e.cert_hash l3 in
     let l5 : List ℕ = put_span 40 41 e.hash_alg l4 in
     let l6 : List ℕ = put_span 42 43 e.certificate l5 in

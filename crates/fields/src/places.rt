@@ -76,8 +76,8 @@ fn put_entry(fields: &mut [u64], e: Entry)
     ensures { fields.new ≡ put_entry e fields.old }
 {
     put_word(fields, 35, e.number);
-    put_flag(fields, 36, e.has_status);
-    put_word(fields, 37, e.status);
+    put_flag(fields, 36, e.status.is_some());
+    put_word(fields, 37, e.status.unwrap_or(0));
     put_span(fields, 38, 39, e.cert_hash);
     put_span(fields, 40, 41, e.hash_alg);
     put_span(fields, 42, 43, e.certificate);

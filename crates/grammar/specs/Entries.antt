@@ -1,5 +1,5 @@
 -- The entries of a body (document 01, "The parts of a message"; RFC 9810 5.3.4, 5.3.18 and RFC 4211 for CertReqMsg).
-use Rattle.std.specs.Prelude.{ℕ, ◌+◌, List, false, cond, eqb}
+use Rattle.std.specs.Prelude.{ℕ, ◌+◌, List, false, cond, eqb, None}
 use Rattle.grammar.specs.declared.Span.{Span}
 use Rattle.grammar.specs.declared.Entry.{Entry}
 use Rattle.grammar.specs.declared.cursor.Cursor.{Cursor}
@@ -13,23 +13,23 @@ use Rattle.grammar.specs.Span.{no_span}
 use Rattle.grammar.specs.Parts.{found_span, whole_span, found_of, any_field, typed_field, status_of, maybe_status}
 
 abbrev pub no_entry : Entry
-no_entry = record { number = 0; has_status = false; status = 0; cert_hash = no_span; hash_alg = no_span; certificate = no_span; request = no_span }
+no_entry = record { number = 0; status = None; cert_hash = no_span; hash_alg = no_span; certificate = no_span; request = no_span }
 
 -- Each of these sets a part of an entry and leaves the others: certReqId; the status; the hash and its algorithm; the certificate; the request.
 abbrev pub with_number : ℕ → Entry → Entry
-with_number n e = record { number = n; has_status = e.has_status; status = e.status; cert_hash = e.cert_hash; hash_alg = e.hash_alg; certificate = e.certificate; request = e.request }
+with_number n e = record { number = n; status = e.status; cert_hash = e.cert_hash; hash_alg = e.hash_alg; certificate = e.certificate; request = e.request }
 
 abbrev pub with_status : Status → Entry → Entry
-with_status i e = record { number = e.number; has_status = i.given; status = i.value; cert_hash = e.cert_hash; hash_alg = e.hash_alg; certificate = e.certificate; request = e.request }
+with_status i e = record { number = e.number; status = i.status; cert_hash = e.cert_hash; hash_alg = e.hash_alg; certificate = e.certificate; request = e.request }
 
 abbrev pub with_hash : Span → Span → Entry → Entry
-with_hash h a e = record { number = e.number; has_status = e.has_status; status = e.status; cert_hash = h; hash_alg = a; certificate = e.certificate; request = e.request }
+with_hash h a e = record { number = e.number; status = e.status; cert_hash = h; hash_alg = a; certificate = e.certificate; request = e.request }
 
 abbrev pub with_certificate : Span → Entry → Entry
-with_certificate s e = record { number = e.number; has_status = e.has_status; status = e.status; cert_hash = e.cert_hash; hash_alg = e.hash_alg; certificate = s; request = e.request }
+with_certificate s e = record { number = e.number; status = e.status; cert_hash = e.cert_hash; hash_alg = e.hash_alg; certificate = s; request = e.request }
 
 abbrev pub with_request : Span → Entry → Entry
-with_request s e = record { number = e.number; has_status = e.has_status; status = e.status; cert_hash = e.cert_hash; hash_alg = e.hash_alg; certificate = e.certificate; request = s }
+with_request s e = record { number = e.number; status = e.status; cert_hash = e.cert_hash; hash_alg = e.hash_alg; certificate = e.certificate; request = s }
 
 -- A request message: a SEQUENCE that begins with a SEQUENCE that begins with INTEGER certReqId; the rest generic.
 unfoldable pub request_of : List ℕ → Cursor → Item

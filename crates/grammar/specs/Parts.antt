@@ -1,6 +1,6 @@
 -- Grammar rules that several parts of a message share (document 01, "The parts of a message"; RFC 9810 appendix F).
 -- An optional part is recognised by its tag byte; its inside must then fit.
-use Rattle.std.specs.Prelude.{ℕ, ◌-◌, ◌/◌, ◌%◌, ◌^◌, List, Bool, true, false, cond, ◌||◌, length, ltb, leb, eqb}
+use Rattle.std.specs.Prelude.{ℕ, ◌-◌, ◌/◌, ◌%◌, ◌^◌, List, Bool, true, false, cond, ◌||◌, length, ltb, leb, eqb, Some, None}
 use Rattle.der.specs.Head.{byte}
 use Rattle.grammar.specs.declared.Span.{Span}
 use Rattle.grammar.specs.declared.cursor.Cursor.{Cursor}
@@ -97,8 +97,8 @@ unfoldable pub status_of : List ℕ → Cursor → Status
 status_of m c =
     let s : Cursor = need_of m 0x30 c in
     let v : Cursor = small_integer_of m (enter_of s) in
-    record { cur = leave_of s (done_of (fail_info_of m (maybe_text m v))); given = true; value = value_of m v }
+    record { cur = leave_of s (done_of (fail_info_of m (maybe_text m v))); status = Some (value_of m v) }
 
 -- PKIStatusInfo OPTIONAL
 unfoldable pub maybe_status : List ℕ → Cursor → Status
-maybe_status m c = cond (eqb (tag_at m c) 0x30) (status_of m c) (record { cur = c; given = false; value = 0 })
+maybe_status m c = cond (eqb (tag_at m c) 0x30) (status_of m c) (record { cur = c; status = None })

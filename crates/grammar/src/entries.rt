@@ -39,8 +39,7 @@ pub(crate) fn no_entry() -> Entry
     let absent = span_from(0, 0);
     Entry {
         number: 0,
-        has_status: false,
-        status: 0,
+        status: None,
         cert_hash: absent,
         hash_alg: absent,
         certificate: absent,
@@ -109,8 +108,7 @@ fn response(m: &[u8], c: Cursor) -> Item
     let cur = leave(s, done(r));
     let mut entry = no_entry();
     entry.number = value(m, n);
-    entry.has_status = i.given;
-    entry.status = i.value;
+    entry.status = i.status;
     entry.certificate = found_span(k);
     Item { cur, entry }
 }
@@ -127,8 +125,7 @@ fn cert_status(m: &[u8], c: Cursor) -> Item
     let cur = leave(s, done(a));
     let mut entry = no_entry();
     entry.number = value(m, n);
-    entry.has_status = i.given;
-    entry.status = i.value;
+    entry.status = i.status;
     entry.cert_hash = found_span(h);
     entry.hash_alg = found_span(a);
     Item { cur, entry }

@@ -45,9 +45,8 @@ pub struct Header {
 pub struct Entry {
     // certReqId in 32 bits of two's complement
     pub number: u32,
-    pub has_status: bool,
-    // status in 32 bits of two's complement
-    pub status: u32,
+    // status in 32 bits of two's complement, where there is a PKIStatusInfo
+    pub status: Option<u32>,
     // a content
     pub cert_hash: Span,
     // whole elements

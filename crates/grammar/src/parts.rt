@@ -22,12 +22,11 @@ pub enum Each {
     Info,
 }
 
-// PKIStatusInfo: whether it is there, and its status.
+// PKIStatusInfo: its status, or none where it is not there.
 #[derive(Clone, Copy)]
 pub struct Status {
     pub cur: Cursor,
-    pub given: bool,
-    pub value: u32,
+    pub status: Option<u32>,
 }
 
 pub(crate) fn span_from(a: usize, b: usize) -> Span
@@ -326,8 +325,7 @@ pub(crate) fn status_info(m: &[u8], c: Cursor) -> Status
     let cur = leave(s, done(f));
     Status {
         cur,
-        given: true,
-        value: value(m, v),
+        status: Some(value(m, v)),
     }
 }
 
@@ -341,8 +339,7 @@ pub(crate) fn maybe_status(m: &[u8], c: Cursor) -> Status
     } else {
         Status {
             cur: c,
-            given: false,
-            value: 0,
+            status: None,
         }
     }
 }

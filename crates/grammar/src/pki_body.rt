@@ -83,8 +83,7 @@ fn error(m: &[u8], c: Cursor) -> Contents
     let t = maybe_text(m, n);
     let cur = leave(s, done(t));
     let mut entry = no_entry();
-    entry.has_status = i.given;
-    entry.status = i.value;
+    entry.status = i.status;
     Contents {
         cur,
         entries: 0,

@@ -83,9 +83,9 @@ pub fn head_refusal(message: &[u8], m: Message, good: bool) -> u8
 
 // The status of the only entry, or of an error; one that is left out counts as 0.
 pub fn status_or_0(entry: Entry) -> u32
-    ensures { result ≡ status_or0 (optional_status entry.has_status entry.status) }
+    ensures { result ≡ status_or0 (optional_status entry.status) }
 {
-    if entry.has_status { entry.status } else { 0 }
+    entry.status.unwrap_or(0)
 }
 
 // "11 if Confirmed, else 2"

@@ -1,5 +1,5 @@
 -- Demand 2 over lent bytes.
-use Rattle.std.specs.Prelude.{Ok}
+use Rattle.std.specs.Prelude.{Ok, Some, None}
 use Prim.Native.Nat.{ℕ}
 use mathlib.Core.List.{List}
 use mathlib.Core.Bool.{Bool, true, false}
@@ -8,6 +8,7 @@ use mathlib.Core.Logic.{◌⊎◌, inl, inr}
 use native.Mathlib.Omega.{arith}
 use Rattle.message.specs.Read.{reading_of}
 use Rattle.grammar.specs.declared.Message.{Message}
+use Rattle.protocol.specs.Types.{GivenStatus}
 use Rattle.protocol.specs.declared.RegistrarInput.{RegistrarInput}
 use Rattle.protocol.specs.declared.TransactionState.{TransactionState}
 use Rattle.protocol.specs.declared.TransactionState.TheVariants.{Confirmed, Declined}
@@ -41,15 +42,14 @@ is-again outcome.Again e = refl
 is-again (outcome.Refused n f) e = absurd (omega arith)
 
 -- a confirmation that matches leads to a state
-status_leads : (m : Message) → (m.body.entry.status ≡ 0) ⊎ (m.body.entry.status ≡ 2) → m.body.entry.has_status ≡ true
-    → (v : TransactionState) × LeadsTo m v
-status_leads m (inl e) h = (Confirmed, inl (refl, inr e))
-status_leads m (inr e) h = (Declined, inr (refl, h, e))
+status_leads : (m : Message) (s : ℕ) → m.body.entry.status ≡ Some s → (s ≡ 0) ⊎ (s ≡ 2) → (v : TransactionState) × LeadsTo m v
+status_leads m s h (inl e) = (Confirmed, inl (refl, inr (h ∙ ap Some e)))
+status_leads m s h (inr e) = (Declined, inr (refl, h ∙ ap Some e))
 
-leads : (m : Message) (b : Bool) → m.body.entry.has_status ≡ b
-    → (b ≡ true → (m.body.entry.status ≡ 0) ⊎ (m.body.entry.status ≡ 2)) → (v : TransactionState) × LeadsTo m v
-leads m true h s = status_leads m (s refl) h
-leads m false h s = (Confirmed, inl (refl, inl h))
+leads : (m : Message) (o : GivenStatus) → m.body.entry.status ≡ o
+    → ((s : ℕ) → m.body.entry.status ≡ Some s → (s ≡ 0) ⊎ (s ≡ 2)) → (v : TransactionState) × LeadsTo m v
+leads m (Some s) h k = status_leads m s h (k s h)
+leads m None h k = (Confirmed, inl (refl, inl h))
 
 -- ## The rule
 
@@ -63,7 +63,7 @@ module _ (t : TransactionTable) (d : RegistrarInput) (bytes : List ℕ) (m : Mes
         record {
           moves = λ e. rule.moves (record { reads = reads; kind = kind; ends = is-done _ (sym code ∙ e) });
           done = λ r c.
-              let v : (v : TransactionState) × LeadsTo m v = leads m m.body.entry.has_status refl c.match.status in
+              let v : (v : TransactionState) × LeadsTo m v = leads m m.body.entry.status refl c.match.status in
               code ∙ ap outcome_number (rule.moved r c v.0 v.1).0.done;
           moved = λ r c v l. subst (MovedAnswer t d r c.match.id c.match.nonce v) (sym back) (rule.moved r c v l);
           repeats = λ e. rule.repeats (record { reads = reads; kind = kind; ends = is-again _ (sym code ∙ e) });

@@ -1,5 +1,5 @@
 -- The numbers of a reading are put at places that differ: what stands at each is what was put there.
-use Rattle.std.specs.Prelude.{Ok, Err}
+use Rattle.std.specs.Prelude.{Ok, Err, is_some, unwrap_or}
 use Prim.Native.Nat.{ℕ, zero, suc, ◌+◌, ◌<◌, ◌≤◌}
 use mathlib.Core.List.{List, [], ◌∷◌}
 use mathlib.Core.Bool.{Bool, true, false, cond}
@@ -89,8 +89,8 @@ puts x =
     number 2 x.body.entries (
     span 33 x.body.ca_pubs (
     number 35 x.body.entry.number (
-    number 36 (cond x.body.entry.has_status 1 0) (
-    number 37 x.body.entry.status (
+    number 36 (cond (is_some x.body.entry.status) 1 0) (
+    number 37 (unwrap_or x.body.entry.status 0) (
     span 38 x.body.entry.cert_hash (
     span 40 x.body.entry.hash_alg (
     span 42 x.body.entry.certificate (
@@ -165,7 +165,7 @@ module _ (x : Message) (l : List ℕ) (room : field_count ≤ length l) where
   unfolding stands
   entries = at 2 (omega arith)
 
-  has-status : get_or (put_message x l) 36 0 ≡ cond x.body.entry.has_status 1 0
+  has-status : get_or (put_message x l) 36 0 ≡ cond (is_some x.body.entry.status) 1 0
   unfolding stands
   has-status = at 36 (omega arith)
 

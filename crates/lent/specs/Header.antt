@@ -1,5 +1,5 @@
 -- Demand 3 as the C header says it: premises and claim at its places in the lent bytes, nothing unpacked, and the calls by what they returned.
-use Rattle.std.specs.Prelude.{ℕ, ◌<◌, List, [], ◌∷◌, true, false, ◌≡◌, ◌⊎◌, ◌≢◌, ◌↔◌, length, ltb, Ok, Err}
+use Rattle.std.specs.Prelude.{ℕ, ◌<◌, List, [], ◌∷◌, true, false, ◌≡◌, ◌⊎◌, ◌≢◌, ◌↔◌, length, ltb, Ok, Err, Some, None}
 use Rattle.std.proofs.Math.Option.{some}
 use Rattle.std.proofs.Math.ListN.{get_elem?}
 use Rattle.grammar.specs.declared.Message.{Message}
@@ -53,8 +53,8 @@ pub record CarriesBytes (bytes : List ℕ) (m : Message) (o : List ℕ) : Type 0
   pub status :
       outgoing_has_status o ≡ 1
       → (m.body.kind ≡ 23) ⊎ (m.body.entries ≡ 1)
-      → ((m.body.entry.has_status ≡ true) × (m.body.entry.status ≡ outgoing_status o))
-      ⊎ ((m.body.kind ≡ 24) × (m.body.entry.has_status ≡ false) × (outgoing_status o ≡ 0))
+      → (m.body.entry.status ≡ Some (outgoing_status o))
+      ⊎ ((m.body.kind ≡ 24) × (m.body.entry.status ≡ None) × (outgoing_status o ≡ 0))
   -- "and in a certConf the same hash."
   pub hash : m.body.kind ≡ 24 → m.body.entries ≡ 1 → PartIs bytes m.body.entry.cert_hash (outgoing_hash o)
 

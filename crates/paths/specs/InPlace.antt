@@ -1,6 +1,6 @@
 -- Demand 2, "each field is found exactly where the standard puts it": what holds of a message x that was read from the bytes m.
 use Rattle.der.specs.Types.{whole_head}
-use Rattle.std.specs.Prelude.{ℕ, ◌+◌, ◌≤◌, ◌≡◌, List, ◌↔◌, ◌≢◌, length, Ok}
+use Rattle.std.specs.Prelude.{ℕ, ◌+◌, ◌≤◌, ◌≡◌, List, ◌↔◌, ◌≢◌, length, Ok, is_some}
 use Rattle.std.proofs.Math.Option.{none}
 use Rattle.der.specs.Head.{head_of}
 use Rattle.grammar.specs.declared.Span.{Span}
@@ -25,7 +25,7 @@ pub record InPlace (m : List ℕ) (x : Message) : Type 0 where
   pub numbers : (n : Number) → told x n ≡ number_at m (walk m (path_of n))
   pub small : (n : Number) → length_at (walk m (path_of n)) ≤ 4
   -- there is a status exactly where there is a PKIStatusInfo
-  pub has_status : x.body.entry.has_status ≡ found (walk m status_info)
+  pub has_status : is_some x.body.entry.status ≡ found (walk m status_info)
   -- the entries are the components of what holds them
   pub entries : x.body.entries ≡ size_at m (walk m entry_list)
   -- the kind is the number of the body's tag

@@ -1,4 +1,5 @@
 -- What the steps read in a message that carries an outgoing message: the premise's words in the steps' terms.
+use Rattle.std.specs.Prelude.{Some, None}
 use Prim.Native.Nat.{ℕ}
 use mathlib.Core.List.{List}
 use mathlib.Core.Bool.{true, false}
@@ -7,9 +8,10 @@ use mathlib.Core.Path.{◌≡◌, refl, sym, ◌∙◌, ap}
 use mathlib.Core.Logic.{◌⊎◌, inl, inr}
 use Rattle.grammar.specs.declared.Span.{Span}
 use Rattle.grammar.specs.declared.Message.{Message}
+use Rattle.protocol.specs.Types.{GivenStatus}
 use Rattle.protocol.specs.declared.Nonce.{Nonce}
 use Rattle.protocol.specs.declared.Outgoing.{Outgoing}
-use Rattle.protocol.specs.Message.{optional_part, Fields, fields_of, status_or0}
+use Rattle.protocol.specs.Message.{optional_status, optional_part, Fields, fields_of, status_or0}
 use Rattle.protocol.specs.Agreement.{HasPart, Carries}
 use Rattle.protocol.proofs.Tests.{other_than, some_some}
 
@@ -42,10 +44,10 @@ module _ (bytes : List ℕ) (m : Message) (o : Outgoing) (c : Carries bytes m o)
   unfolding fields_of
   recip_read n h e = nonce_of o.recip_nonce n (some_some (sym (part_there bytes m.header.recip_nonce o.recip_nonce.bytes (c.recip_nonce h)) ∙ e))
 
-  status_by : ((m.body.entry.has_status ≡ true) × (m.body.entry.status ≡ o.contents.status)) ⊎ ((m.body.kind ≡ 24) × (m.body.entry.has_status ≡ false) × (o.contents.status ≡ 0)) → o.contents.status ≡ status_or0 f.status
+  status_by : (m.body.entry.status ≡ Some o.contents.status) ⊎ ((m.body.kind ≡ 24) × (m.body.entry.status ≡ None) × (o.contents.status ≡ 0)) → o.contents.status ≡ status_or0 f.status
   unfolding fields_of
-  status_by (inl g) = rw g.0 (sym g.1)
-  status_by (inr g) = rw g.1 g.2
+  status_by (inl g) = sym (ap (λ (o : GivenStatus). status_or0 (optional_status o)) g)
+  status_by (inr g) = g.2 ∙ sym (ap (λ (o : GivenStatus). status_or0 (optional_status o)) g.1)
 
   pub status_read : o.contents.has_status ≡ true → f.entries ≡ 1 → o.contents.status ≡ status_or0 f.status
   unfolding fields_of

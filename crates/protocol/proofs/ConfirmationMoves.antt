@@ -11,6 +11,7 @@ use lib.Dec.{eqb}
 use Rattle.message.specs.Read.{reading_of}
 use Rattle.grammar.specs.declared.Span.{Span}
 use Rattle.grammar.specs.declared.Message.{Message}
+use Rattle.protocol.specs.Types.{GivenStatus}
 use Rattle.protocol.specs.declared.Board.{Board}
 use Rattle.protocol.specs.declared.Hash.{Hash}
 use Rattle.protocol.specs.Types.{Verdict}
@@ -83,15 +84,15 @@ module _ (t : TransactionTable) (d : RegistrarInput) (bytes : List ℕ) (m : Mes
 
   -- ## Only if
 
-  status-known :
-      (b : Bool) → m.body.entry.has_status ≡ b → b ≡ true →
-      (status_or0 (optional_status b m.body.entry.status) ≡ 0) ⊎ (status_or0 (optional_status b m.body.entry.status) ≡ 2) →
-      (m.body.entry.status ≡ 0) ⊎ (m.body.entry.status ≡ 2)
-  status-known true h e k = k
-  status-known false h e k = true_false (sym e)
+  KnownStatus : GivenStatus → Type 0
+  KnownStatus o = (status_or0 (optional_status o) ≡ 0) ⊎ (status_or0 (optional_status o) ≡ 2)
+
+  status-known : {s : ℕ} → m.body.entry.status ≡ Some s → KnownStatus m.body.entry.status → (s ≡ 0) ⊎ (s ≡ 2)
+  unfolding KnownStatus
+  status-known e k = subst KnownStatus e k
 
   matches : reading_of bytes ≡ Ok m → (r : Transaction) → lookup rs (as_id f.id) ≡ some r → lowest_row (registrar_rows rs (some r) d.verdict f) ≡ pass → confirms f ≡ true → Matches t d bytes m r
-  unfolding fields_of
+  unfolding fields_of KnownStatus
   matches reads r h e k =
       let p : (is_present m.protection && is_present m.header.protection_alg) ≡ true = protected_it rs r d.verdict f e k in
       let i : Sixteen bytes m.header.transaction_id (part_of bytes m.header.transaction_id) = sixteen bytes m.header.transaction_id (id_it rs r d.verdict f e k) in
@@ -115,14 +116,14 @@ module _ (t : TransactionTable) (d : RegistrarInput) (bytes : List ℕ) (m : Mes
         recip_nonce = a.1;
         request = request_it rs r d.verdict f e k;
         hash = ap (λ (x : Hash). x.bytes) (hash_it rs r d.verdict f e k);
-        status = λ q. status-known m.body.entry.has_status refl q (known_it rs r d.verdict f e k);
+        status = λ s q. status-known q (known_it rs r d.verdict f e k);
       }
 
-  leads_by : (b : Bool) → m.body.entry.has_status ≡ b → (s : TransactionState) → settled_by s (status_or0 (optional_status b m.body.entry.status)) ≡ true → (s ≡ at_registrar.Confirmed) ⊎ (s ≡ at_registrar.Declined) → LeadsTo m s
-  leads_by true h s e (inl c) = inl (c, inr (eqb_eq m.body.entry.status 0 (ap (λ (z : TransactionState). settled_by z m.body.entry.status) (sym c) ∙ e)))
-  leads_by true h s e (inr c) = inr (c, h, eqb_eq m.body.entry.status 2 (ap (λ (z : TransactionState). settled_by z m.body.entry.status) (sym c) ∙ e))
-  leads_by false h s e (inl c) = inl (c, inl h)
-  leads_by false h s e (inr c) = true_false (sym e ∙ ap (λ (z : TransactionState). settled_by z 0) c)
+  leads_by : (o : GivenStatus) → m.body.entry.status ≡ o → (s : TransactionState) → settled_by s (status_or0 (optional_status o)) ≡ true → (s ≡ at_registrar.Confirmed) ⊎ (s ≡ at_registrar.Declined) → LeadsTo m s
+  leads_by (Some v) h s e (inl c) = inl (c, inr (h ∙ ap Some (eqb_eq v 0 (ap (λ (z : TransactionState). settled_by z v) (sym c) ∙ e))))
+  leads_by (Some v) h s e (inr c) = inr (c, h ∙ ap Some (eqb_eq v 2 (ap (λ (z : TransactionState). settled_by z v) (sym c) ∙ e)))
+  leads_by None h s e (inl c) = inl (c, inl h)
+  leads_by None h s e (inr c) = true_false (sym e ∙ ap (λ (z : TransactionState). settled_by z 0) c)
 
   repeating : reading_of bytes ≡ Ok m → (r : Transaction) → lookup rs (as_id f.id) ≡ some r → lowest_row (registrar_rows rs (some r) d.verdict f) ≡ pass → confirms f ≡ true → is_granted r.state ≡ false → Repeating t d bytes m r
   unfolding fields_of matches
@@ -132,7 +133,7 @@ module _ (t : TransactionTable) (d : RegistrarInput) (bytes : List ℕ) (m : Mes
       record {
         match = matches reads r h e k;
         nonce = λ i. record { bytes = p i };
-        state = leads_by m.body.entry.has_status refl r.state (takes_it rs r d.verdict f e k g) (settled-one r.state _ (takes_it rs r d.verdict f e k g));
+        state = leads_by m.body.entry.status refl r.state (takes_it rs r d.verdict f e k g) (settled-one r.state _ (takes_it rs r d.verdict f e k g));
       }
 
   -- how a confirmation that passes the rows ends

@@ -1,4 +1,5 @@
 -- Demand 2, the other way: a confirmation that matches is refused by no row, and moves its transaction.
+use Rattle.std.specs.Prelude.{Some, None}
 use Prim.Native.Nat.{ℕ}
 use mathlib.Core.List.{List}
 use mathlib.Core.Bool.{Bool, true, false, not, ◌&&◌, ◌||◌}
@@ -7,6 +8,7 @@ use mathlib.Core.Path.{◌≡◌, refl, sym, ◌∙◌, ap, subst}
 use mathlib.Core.Logic.{inl, inr}
 use lib.Dec.{eqb}
 use Rattle.grammar.specs.declared.Message.{Message}
+use Rattle.protocol.specs.Types.{GivenStatus}
 use Rattle.protocol.specs.declared.Nonce.{Nonce}
 use Rattle.protocol.specs.declared.RegistrarInput.{RegistrarInput}
 use Rattle.protocol.specs.declared.TransactionState.{TransactionState}
@@ -92,13 +94,13 @@ module _ (t : TransactionTable) (d : RegistrarInput) (bytes : List ℕ) (m : Mes
   unfolding fields_of
   row_17 = alg_off (is_present m.body.entry.hash_alg) refl
 
-  status_in : (b : Bool) → m.body.entry.has_status ≡ b → (eqb (status_or0 (optional_status b m.body.entry.status)) 0 || eqb (status_or0 (optional_status b m.body.entry.status)) 2) ≡ true
-  status_in true e = either m.body.entry.status 0 2 (c.status e)
-  status_in false e = refl
+  status_in : (o : GivenStatus) → m.body.entry.status ≡ o → (eqb (status_or0 (optional_status o)) 0 || eqb (status_or0 (optional_status o)) 2) ≡ true
+  status_in (Some v) e = either v 0 2 (c.status v e)
+  status_in None e = refl
 
   row_18 : other_status f ≡ false
   unfolding fields_of
-  row_18 = off_right (confirms f && one_entry f) _ (holds_not _ (status_in m.body.entry.has_status refl))
+  row_18 = off_right (confirms f && one_entry f) _ (holds_not _ (status_in m.body.entry.status refl))
 
   same-hash : same_hash f.hash r.hash ≡ true
   unfolding fields_of
@@ -123,16 +125,14 @@ module _ (t : TransactionTable) (d : RegistrarInput) (bytes : List ℕ) (m : Mes
 -- ## The answers
 
 module _ (t : TransactionTable) (d : RegistrarInput) (bytes : List ℕ) (m : Message) (r : Transaction) where
-  state_by : (b : Bool) → m.body.entry.has_status ≡ b → (s : TransactionState) → LeadsTo m s → settled_state (status_or0 (optional_status b m.body.entry.status)) ≡ s
-  state_by true h s (inl (e, inl q)) = true_false (sym h ∙ q)
-  state_by true h s (inl (e, inr q)) = rw (q, e)
-  state_by true h s (inr g) = rw (g.2, g.0)
-  state_by false h s (inl (e, q)) = sym e
-  state_by false h s (inr g) = true_false (sym g.1 ∙ h)
+  state_by : (s : TransactionState) → LeadsTo m s → settled_state (status_or0 (optional_status m.body.entry.status)) ≡ s
+  state_by s (inl (e, inl q)) = rw (q, e)
+  state_by s (inl (e, inr q)) = rw (q, e)
+  state_by s (inr g) = rw (g.1, g.0)
 
   state-is : (s : TransactionState) → LeadsTo m s → settled_state (status_or0 (fields_of bytes m).status) ≡ s
   unfolding fields_of
-  state-is s q = state_by m.body.entry.has_status refl s q
+  state-is s q = state_by s q
 
   pub moved : (c : Moving t d bytes m r) (s : TransactionState) → LeadsTo m s → MovedAnswer t d r c.match.id c.match.nonce s (registrar_message t d bytes)
   moved c s q =
@@ -149,17 +149,15 @@ module _ (t : TransactionTable) (d : RegistrarInput) (bytes : List ℕ) (m : Mes
   leads_sent s (inl g) = (rw g.0, rw g.0, rw g.0)
   leads_sent s (inr g) = (rw g.0, rw g.0, rw g.0)
 
-  leads_settled : (b : Bool) → m.body.entry.has_status ≡ b → (s : TransactionState) → LeadsTo m s → settled_by s (status_or0 (optional_status b m.body.entry.status)) ≡ true
-  leads_settled true h s (inl (e, inl q)) = true_false (sym h ∙ q)
-  leads_settled true h s (inl (e, inr q)) = rw (e, q)
-  leads_settled true h s (inr g) = rw (g.0, g.2)
-  leads_settled false h s (inl (e, q)) = rw e
-  leads_settled false h s (inr g) = true_false (sym g.1 ∙ h)
+  leads_settled : (s : TransactionState) → LeadsTo m s → settled_by s (status_or0 (optional_status m.body.entry.status)) ≡ true
+  leads_settled s (inl (e, inl q)) = rw (e, q)
+  leads_settled s (inl (e, inr q)) = rw (e, q)
+  leads_settled s (inr g) = rw (g.0, g.1)
 
   repeats_it : (c : Repeating t d bytes m r) → repeats r (fields_of bytes m) ≡ true
   unfolding fields_of
   repeats_it c =
-      both (settled_by r.state (status_or0 (fields_of bytes m).status)) (is_nonce (fields_of bytes m).sender_nonce r.taken) (leads_settled m.body.entry.has_status refl r.state c.state)
+      both (settled_by r.state (status_or0 (fields_of bytes m).status)) (is_nonce (fields_of bytes m).sender_nonce r.taken) (leads_settled r.state c.state)
       (ap (λ (x : Option (List ℕ)). is_nonce x r.taken) (part_there bytes m.header.sender_nonce c.match.nonce.bytes (c.match.sender_nonce.0, c.match.sender_nonce.1))
       ∙ ap (λ (n : Nonce). same_nonce n r.taken) c.nonce
       ∙ same_bytes_refl r.taken.bytes)

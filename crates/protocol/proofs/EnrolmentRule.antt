@@ -1,4 +1,5 @@
 -- A message at an end entity that has what it needs is refused by no row, and does what 01 says.
+use Rattle.std.specs.Prelude.{Some}
 use Prim.Native.Nat.{ℕ}
 use mathlib.Core.List.{List}
 use mathlib.Core.Bool.{Bool, true, false, not, ◌&&◌, ◌||◌}
@@ -8,6 +9,7 @@ use mathlib.Core.Logic.{◌⊎◌, inl, inr}
 use native.Mathlib.Decide.{ℕ_discrete}
 use lib.Dec.{eqb}
 use Rattle.grammar.specs.declared.Message.{Message}
+use Rattle.protocol.specs.Types.{GivenStatus}
 use Rattle.protocol.specs.declared.EndEntityInput.{EndEntityInput}
 use Rattle.protocol.specs.declared.EnrolmentState.{EnrolmentState}
 use Rattle.protocol.specs.declared.Enrolment.{Enrolment}
@@ -53,15 +55,13 @@ module _ (x : Enrolment) (d : EndEntityInput) (bytes : List ℕ) (m : Message) (
   unfolding fields_of
   nonce-is = ap as_nonce (part_there bytes m.header.sender_nonce c.nonce.bytes (c.sender_nonce.0, c.sender_nonce.1))
 
-  status-at : (b : Bool) (s : ℕ) → m.body.entry.has_status ≡ b → StatusIs m s → status_or0 (optional_status b m.body.entry.status) ≡ s
-  status-at true s h (inl g) = g.1
-  status-at true s h (inr g) = true_false (sym h ∙ g.0)
-  status-at false s h (inl g) = true_false (sym g.0 ∙ h)
-  status-at false s h (inr g) = sym g.1
+  status-at : (s : ℕ) → StatusIs m s → status_or0 (optional_status m.body.entry.status) ≡ s
+  status-at s (inl g) = ap (λ (o : GivenStatus). status_or0 (optional_status o)) g
+  status-at s (inr g) = ap (λ (o : GivenStatus). status_or0 (optional_status o)) g.0 ∙ sym g.1
 
   status-is : (s : ℕ) → StatusIs m s → status_or0 f.status ≡ s
   unfolding fields_of
-  status-is s g = status-at m.body.entry.has_status s refl g
+  status-is s g = status-at s g
 
   or_off : (a b : Bool) → a ≡ false → b ≡ false → (a || b) ≡ false
   or_off a b p q = rw (p, q)

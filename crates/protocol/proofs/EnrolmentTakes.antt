@@ -1,5 +1,5 @@
 -- What a message at an end entity shows that no row refuses.
-use Rattle.std.specs.Prelude.{Ok}
+use Rattle.std.specs.Prelude.{Ok, Some, None}
 use Prim.Native.Nat.{ℕ}
 use mathlib.Core.List.{List}
 use mathlib.Core.Bool.{Bool, true, false, not, ◌&&◌, ◌||◌}
@@ -9,6 +9,7 @@ use lib.ListN.{length}
 use lib.Dec.{eqb}
 use Rattle.message.specs.Read.{reading_of}
 use Rattle.grammar.specs.declared.Message.{Message}
+use Rattle.protocol.specs.Types.{GivenStatus}
 use Rattle.protocol.specs.declared.EndEntityInput.{EndEntityInput}
 use Rattle.protocol.specs.declared.EnrolmentState.{EnrolmentState}
 use Rattle.protocol.specs.declared.Enrolment.{Enrolment}
@@ -116,16 +117,16 @@ module _ (x : Enrolment) (d : EndEntityInput) (bytes : List ℕ) (m : Message) w
           state = is-confirming x.state (not_false (is_confirming x.state) (and_false (acknowledges f) (not (is_confirming x.state)) (or_false_right A B (or_false_left (A || B) C row_20)) k));
         }
 
-    status_by : (b : Bool) (s : ℕ) → m.body.entry.has_status ≡ b → status_or0 (optional_status b m.body.entry.status) ≡ s → StatusIs m s
-    status_by true s h q = inl (h, q)
-    status_by false s h q = inr (h, sym q)
+    status_by : (o : GivenStatus) (s : ℕ) → m.body.entry.status ≡ o → status_or0 (optional_status o) ≡ s → StatusIs m s
+    status_by (Some v) s h q = inl (h ∙ ap Some q)
+    status_by None s h q = inr (h, sym q)
 
     reported : reports f ≡ true → Reports x m
     unfolding fields_of
     reported k =
         record {
           kind = eqb_eq m.body.kind 23 k;
-          status = status_by m.body.entry.has_status 2 refl (eqb_eq _ 2 (not_false (has_status 2 f) (and_false (reports f) (not (has_status 2 f)) (or_false_right P Q row_18) k)));
+          status = status_by m.body.entry.status 2 refl (eqb_eq _ 2 (not_false (has_status 2 f) (and_false (reports f) (not (has_status 2 f)) (or_false_right P Q row_18) k)));
           state = awaited x.state (or_cases (is_waiting x.state) (is_confirming x.state) (not_false _ (and_false (reports f) (not (is_waiting x.state || is_confirming x.state)) (or_false_right (A || B) C row_20) k)));
         }
 
@@ -150,7 +151,7 @@ module _ (x : Enrolment) (d : EndEntityInput) (bytes : List ℕ) (m : Message) w
           kind = response_it x d f e p q;
           entries = eqb_eq f.entries 1 one;
           request = number_is x.kind f.request (eqb_eq f.request _ (not_false _ (and_false (responds f && one_response f) _ (passes 16 rows e) ro)));
-          status = status_by m.body.entry.has_status _ refl refl;
+          status = status_by m.body.entry.status _ refl refl;
           known = known_by _ (not_false _ (and_false (responds f && one_response f) (not (has_status 0 f || has_status 1 f || has_status 2 f)) (or_false_left P Q row_18) ro));
           state = is_waiting_lem x.state (not_false (is_waiting x.state) (and_false (responds f) (not (is_waiting x.state)) (or_false_left A B (or_false_left (A || B) C row_20)) r));
           certificate = λ z. present-part m.body.entry.certificate (not_false f.certificate (and_false (responds f && not (has_status 2 f)) (not f.certificate) (passes 21 rows e) (both (responds f) (not (has_status 2 f)) r (ap not (other_than (status_or0 f.status) 2 z _ refl)))));

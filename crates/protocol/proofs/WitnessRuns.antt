@@ -1,4 +1,5 @@
 -- A run whose messages are known to read as certain fields, and the premises of demand 3 over those fields.
+use Rattle.std.specs.Prelude.{Some, None}
 use Prim.Native.Nat.{ℕ}
 use mathlib.Core.List.{List, [], ◌∷◌}
 use mathlib.Core.Bool.{Bool, true, false}
@@ -9,6 +10,7 @@ use lib.ListN.{get_elem?}
 use Rattle.grammar.specs.declared.Span.{Span}
 use Rattle.grammar.specs.declared.Message.{Message}
 use Rattle.message.specs.Types.{Reading}
+use Rattle.protocol.specs.Types.{GivenStatus}
 use Rattle.protocol.specs.declared.RegistrarInput.{RegistrarInput}
 use Rattle.protocol.specs.declared.EndEntityInput.{EndEntityInput}
 use Rattle.protocol.specs.declared.TransactionTable.{TransactionTable}
@@ -102,13 +104,13 @@ pub record CarriesFields (f : Fields) (o : Outgoing) : Type 0 where
   pub status : o.contents.has_status ≡ true → (f.status ≡ some o.contents.status) ⊎ ((f.kind ≡ 24) × (f.status ≡ none) × (o.contents.status ≡ 0))
   pub hash : f.kind ≡ 24 → f.hash.bytes ≡ o.contents.hash.bytes
 
-status_some : (b : Bool) (s v : ℕ) → optional_status b s ≡ some v → (b ≡ true) × (s ≡ v)
-status_some true s v e = (refl, some_some e)
-status_some false s v e = none_some e
+status_some : (o : GivenStatus) (v : ℕ) → optional_status o ≡ some v → o ≡ Some v
+status_some (Some s) v e = ap Some (some_some e)
+status_some None v e = none_some e
 
-status-none : (b : Bool) (s : ℕ) → optional_status b s ≡ none → b ≡ false
-status-none true s e = none_some (sym e)
-status-none false s e = refl
+status-none : (o : GivenStatus) → optional_status o ≡ none → o ≡ None
+status-none (Some s) e = none_some (sym e)
+status-none None e = refl
 
 module _ (bytes : List ℕ) (f : Fields) (r : ReadsAs bytes f) (o : Outgoing) (c : CarriesFields f o) where
   abbrev m : Message
@@ -124,11 +126,11 @@ module _ (bytes : List ℕ) (f : Fields) (r : ReadsAs bytes f) (o : Outgoing) (c
   recip_there e h = there m.header.recip_nonce o.recip_nonce.bytes (e ∙ c.recip_nonce ∙ ap (λ (b : Bool). recip_of b o.recip_nonce.bytes) h)
 
   status_there :
-      optional_status m.body.entry.has_status m.body.entry.status ≡ f.status → m.body.kind ≡ f.kind →
+      optional_status m.body.entry.status ≡ f.status → m.body.kind ≡ f.kind →
       (f.status ≡ some o.contents.status) ⊎ ((f.kind ≡ 24) × (f.status ≡ none) × (o.contents.status ≡ 0)) →
-      ((m.body.entry.has_status ≡ true) × (m.body.entry.status ≡ o.contents.status)) ⊎ ((m.body.kind ≡ 24) × (m.body.entry.has_status ≡ false) × (o.contents.status ≡ 0))
-  status_there e k (inl g) = inl (status_some m.body.entry.has_status m.body.entry.status o.contents.status (e ∙ g))
-  status_there e k (inr g) = inr (k ∙ g.0, status-none m.body.entry.has_status m.body.entry.status (e ∙ g.1), g.2)
+      (m.body.entry.status ≡ Some o.contents.status) ⊎ ((m.body.kind ≡ 24) × (m.body.entry.status ≡ None) × (o.contents.status ≡ 0))
+  status_there e k (inl g) = inl (status_some m.body.entry.status o.contents.status (e ∙ g))
+  status_there e k (inr g) = inr (k ∙ g.0, status-none m.body.entry.status (e ∙ g.1), g.2)
 
   carries : Carries bytes m o
   unfolding fields_of

@@ -48,7 +48,7 @@ pub record Carries (bytes : List ℕ) (m : Message) (o : Outgoing) : Type 0 wher
   pub recip_nonce : o.has_recip_nonce ≡ true → HasPart bytes m.header.recip_nonce o.recip_nonce.bytes
   -- "the same status where the order has one (in a certConf none counts as 0),": a message that is no error (23) has a status
   -- only where it has one entry
-  pub status : o.contents.has_status ≡ true → (m.body.kind ≡ 23) ⊎ (m.body.entries ≡ 1) → ((m.body.entry.has_status ≡ true) × (m.body.entry.status ≡ o.contents.status)) ⊎ ((m.body.kind ≡ 24) × (m.body.entry.has_status ≡ false) × (o.contents.status ≡ 0))
+  pub status : o.contents.has_status ≡ true → (m.body.kind ≡ 23) ⊎ (m.body.entries ≡ 1) → (m.body.entry.status ≡ Some o.contents.status) ⊎ ((m.body.kind ≡ 24) × (m.body.entry.status ≡ None) × (o.contents.status ≡ 0))
   -- "and in a certConf the same hash."
   pub hash : m.body.kind ≡ 24 → m.body.entries ≡ 1 → PartIs bytes m.body.entry.cert_hash o.contents.hash.bytes
 

@@ -1,5 +1,5 @@
 -- Demand 2: "A confirmation moves a record exactly when ...", in the user's words.
-use Rattle.std.specs.Prelude.{ℕ, List, true, false, ◌≡◌, ◌⊎◌, ◌≢◌, length, take, drop, Ok, Some}
+use Rattle.std.specs.Prelude.{ℕ, List, true, false, ◌≡◌, ◌⊎◌, ◌≢◌, length, take, drop, Ok, Some, None}
 use Rattle.std.proofs.Math.Option.{some}
 use Rattle.message.specs.Read.{reading_of}
 use Rattle.grammar.specs.declared.Span.{Span}
@@ -53,13 +53,13 @@ pub record Matches (t : TransactionTable) (d : RegistrarInput) (bytes : List ℕ
   -- "certificate hash,"
   pub hash : take m.body.entry.cert_hash.len (drop m.body.entry.cert_hash.start.0 bytes) ≡ r.hash.bytes
   -- "status [...] all match our rules": none, 0 or 2
-  pub status : m.body.entry.has_status ≡ true → (m.body.entry.status ≡ 0) ⊎ (m.body.entry.status ≡ 2)
+  pub status : (s : ℕ) → m.body.entry.status ≡ Some s → (s ≡ 0) ⊎ (s ≡ 2)
 
 -- "no status info or status 0 gives Confirmed, 2 gives Declined"
 abbrev pub LeadsTo : Message → TransactionState → Type 0
 LeadsTo m s =
-    ((s ≡ Confirmed) × ((m.body.entry.has_status ≡ false) ⊎ (m.body.entry.status ≡ 0)))
-    ⊎ ((s ≡ Declined) × (m.body.entry.has_status ≡ true) × (m.body.entry.status ≡ 2))
+    ((s ≡ Confirmed) × ((m.body.entry.status ≡ None) ⊎ (m.body.entry.status ≡ Some 0)))
+    ⊎ ((s ≡ Declined) × (m.body.entry.status ≡ Some 2))
 
 -- "and the record's state": it moves at Granted;
 pub record Moving (t : TransactionTable) (d : RegistrarInput) (bytes : List ℕ) (m : Message) (r : Transaction) : Type 0 where

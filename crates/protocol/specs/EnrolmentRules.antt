@@ -1,5 +1,5 @@
 -- A message at an end entity is taken exactly when ..., and what it then does to the enrolment.
-use Rattle.std.specs.Prelude.{ℕ, List, true, false, ◌≡◌, ◌⊎◌, ◌≢◌, replicate, take, drop, Ok, None}
+use Rattle.std.specs.Prelude.{ℕ, List, true, false, ◌≡◌, ◌⊎◌, ◌≢◌, replicate, take, drop, Ok, None, Some}
 use Rattle.message.specs.Read.{reading_of}
 use Rattle.grammar.specs.declared.Message.{Message}
 use Rattle.protocol.specs.declared.TransactionId.{TransactionId}
@@ -35,7 +35,7 @@ pub record Heard (x : Enrolment) (d : EndEntityInput) (bytes : List ℕ) (m : Me
 
 -- the status in the message; one that is left out counts as 0
 abbrev pub StatusIs : Message → ℕ → Type 0
-StatusIs m s = ((m.body.entry.has_status ≡ true) × (m.body.entry.status ≡ s)) ⊎ ((m.body.entry.has_status ≡ false) × (s ≡ 0))
+StatusIs m s = (m.body.entry.status ≡ Some s) ⊎ ((m.body.entry.status ≡ None) × (s ≡ 0))
 
 -- pkiconf, where it is awaited
 pub record Acknowledges (x : Enrolment) (m : Message) : Type 0 where

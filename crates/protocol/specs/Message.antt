@@ -1,6 +1,7 @@
 -- What the steps look at in a message: the kinds, and the fields that the reader found, taken from the message's bytes.
-use Rattle.std.specs.Prelude.{ℕ, List, Bool, true, false, not, cond, ◌&&◌, ◌||◌, eqb}
+use Rattle.std.specs.Prelude.{ℕ, List, Bool, true, false, not, cond, ◌&&◌, ◌||◌, eqb, Some, None}
 use Rattle.std.proofs.Math.Option.{Option, none, some}
+use Rattle.protocol.specs.Types.{GivenStatus}
 use Rattle.grammar.specs.declared.Span.{Span}
 use Rattle.grammar.specs.declared.Message.{Message}
 use Rattle.grammar.specs.Span.{part_of}
@@ -76,9 +77,9 @@ is_present s = not (eqb s.start.0 0)
 abbrev pub optional_part : List ℕ → Span → Option (List ℕ)
 optional_part bytes s = cond (is_present s) (some (part_of bytes s)) none
 
-abbrev pub optional_status : Bool → ℕ → Option ℕ
-optional_status true s = some s
-optional_status false s = none
+abbrev pub optional_status : GivenStatus → Option ℕ
+optional_status (Some s) = some s
+optional_status None = none
 
 unfoldable pub fields_of : List ℕ → Message → Fields
 fields_of bytes m =
@@ -91,7 +92,7 @@ fields_of bytes m =
       protected = is_present m.protection && is_present m.header.protection_alg;
       entries = m.body.entries;
       request = m.body.entry.number;
-      status = optional_status m.body.entry.has_status m.body.entry.status;
+      status = optional_status m.body.entry.status;
       hash = record { bytes = part_of bytes m.body.entry.cert_hash };
       hash_alg = is_present m.body.entry.hash_alg;
       certificate = is_present m.body.entry.certificate;

@@ -9,3 +9,7 @@ Verdict = Option Board
 -- a PKIFailureInfo bit, or none
 abbrev pub FailureInfo : Type 0
 FailureInfo = Option ℕ
+
+-- a status, or none: the grammar's
+abbrev pub GivenStatus : Type 0
+GivenStatus = Option ℕ
