@@ -1,5 +1,5 @@
 -- Every order that a call gives fits.
-use Rattle.std.specs.Prelude.{Ok, Err}
+use Rattle.std.specs.Prelude.{Ok, Err, Some, None}
 use Prim.Native.Nat.{ℕ}
 use mathlib.Core.List.{List, [], ◌∷◌}
 use mathlib.Core.Bool.{Bool, true, false, cond, ◌||◌}
@@ -74,17 +74,17 @@ SentFits none = Unit {0}
 SentFits (some o) = order_fits o ≡ true
 
 abbrev RegistrarFits : RegistrarAnswer → Type 0
-RegistrarFits a = SentFits (sent_by a.sends a.outgoing)
+RegistrarFits a = SentFits (sent_by a.outgoing)
 
 abbrev BoardFits : EndEntityAnswer → Type 0
-BoardFits a = SentFits (sent_by a.sends a.outgoing)
+BoardFits a = SentFits (sent_by a.outgoing)
 
 -- ## The registrar
 
 -- "for numbers 6 up in message steps the desk also issues an error order"
-error_sent : (b : Bool) (o s : Outgoing) → order_fits o ≡ true → SentFits (sent_by b (cond b o s))
-error_sent true o s h = h
-error_sent false o s h = tt
+error_sent : (b : Bool) (o : Outgoing) → order_fits o ≡ true → SentFits (sent_by (cond b (Some o) None))
+error_sent true o h = h
+error_sent false o h = tt
 
 confirmed-fits : (f : Option Transaction) (t : TransactionTable) (n : FreshNonce) (m : Fields) → RegistrarFits (confirmed_found f t n m)
 confirmed-fits none t n m = tt
@@ -97,7 +97,7 @@ checked_fits : (x : LowestRow) (f : Option Transaction) (t : TransactionTable) (
 unfolding registrar_checked
 checked_fits (stop k) f t d m =
     let bit : FailureInfo = bit_of k (confirmed_at f) in
-    error_sent (leb 6 k) (error_out (as_id m.id) d.nonce (as_nonce m.sender_nonce) bit) silent
+    error_sent (leb 6 k) (error_out (as_id m.id) d.nonce (as_nonce m.sender_nonce) bit)
     (error_fits (as_id m.id) d.nonce (as_nonce m.sender_nonce) bit)
 checked_fits pass f t d m = cond-case RegistrarFits (opens m) tt (cond-case RegistrarFits (confirms m) (confirmed-fits f t d.nonce m) tt)
 
@@ -177,11 +177,11 @@ one_more end s past h all p o (inr g) = all p o g
 
 module _ (w : World) (c : Call) (all : AllFit w.past) where
   registrar_did_lem : (closed : Option TransactionId) (a : RegistrarAnswer) → RegistrarFits a → AllFit (registrar_did w c closed a).past
-  registrar_did_lem closed a h = one_more TheRegistrar (sent_by a.sends a.outgoing) w.past h all
+  registrar_did_lem closed a h = one_more TheRegistrar (sent_by a.outgoing) w.past h all
 
   board_did_lem : (b : Board) (a : EndEntityAnswer) → BoardFits a
-      → (p : End) (o : Outgoing) → ((OneBoard b ≡ p) × (sent_by a.sends a.outgoing ≡ some o)) ⊎ Issued p o w.past → order_fits o ≡ true
-  board_did_lem b a h = one_more (OneBoard b) (sent_by a.sends a.outgoing) w.past h all
+      → (p : End) (o : Outgoing) → ((OneBoard b ≡ p) × (sent_by a.outgoing ≡ some o)) ⊎ Issued p o w.past → order_fits o ≡ true
+  board_did_lem b a h = one_more (OneBoard b) (sent_by a.outgoing) w.past h all
 
   start_did_lem : (b : Board) (a : EndEntityAnswer) (i : Option TransactionId) → BoardFits a → AllFit (start_did w c b a i).past
   start_did_lem b a none h = board_did_lem b a h

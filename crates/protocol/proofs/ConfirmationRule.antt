@@ -142,7 +142,7 @@ module _ (t : TransactionTable) (d : RegistrarInput) (bytes : List ℕ) (m : Mes
       let e : registrar_message t d bytes ≡ done_sending (slot_of t.transactions c.match.id) (replace t.transactions c.match.id x) o =
       passed t d bytes m r c.match (rw c.granted) (rw c.granted) (ap (λ (b : Bool). b || repeats r (fields_of bytes m)) g)
       ∙ rw (g, id-is t d bytes m r c.match, nonce-is t d bytes m r c.match, state-is s q) in
-      subst (MovedAnswer t d r c.match.id c.match.nonce s) (sym e) (sending_becomes t c.match.id r x c.match.holds o, (refl, refl))
+      subst (MovedAnswer t d r c.match.id c.match.nonce s) (sym e) (sending_becomes t c.match.id r x c.match.holds o, refl)
 
   -- what the state of a repeated confirmation says
   leads_sent : (s : TransactionState) → LeadsTo m s → (has_sent s ≡ true) × (is_hashed s ≡ true) × (is_granted s ≡ false)
@@ -166,11 +166,11 @@ module _ (t : TransactionTable) (d : RegistrarInput) (bytes : List ℕ) (m : Mes
   repeated c =
       let l : (has_sent r.state ≡ true) × (is_hashed r.state ≡ true) × (is_granted r.state ≡ false) = leads_sent r.state c.state in
       let a : RegistrarAnswer =
-      record { outcome = outcome.Again; fault = no_fault; slot = record { 0 = slot_of t.transactions c.match.id }; sends = true; outgoing = acknowledgement d c.match.id c.match.nonce; table = t } in
+      record { outcome = outcome.Again; fault = no_fault; slot = record { 0 = slot_of t.transactions c.match.id }; outgoing = Some (acknowledgement d c.match.id c.match.nonce); table = t } in
       let e : registrar_message t d bytes ≡ a =
       passed t d bytes m r c.match l.0 l.1 (or_true (is_granted r.state) (repeats r (fields_of bytes m)) (repeats_it c))
       ∙ rw (l.2, id-is t d bytes m r c.match, nonce-is t d bytes m r c.match) in
-      subst (RepeatedAnswer t d r c.match.id c.match.nonce) (sym e) (record { again = refl; fault = refl; held = first-at t c.match.id r c.match.holds; sends = (refl, refl); table = refl })
+      subst (RepeatedAnswer t d r c.match.id c.match.nonce) (sym e) (record { again = refl; fault = refl; held = first-at t c.match.id r c.match.holds; sends = refl; table = refl })
 
 -- ## The rule
 

@@ -1,9 +1,9 @@
 -- Every call of an end entity keeps demand 1's promise, on any enrolment.
-use Rattle.std.specs.Prelude.{Ok, Err}
+use Rattle.std.specs.Prelude.{Ok, Err, None, Some}
 use Prim.Native.Nat.{ℕ}
 use mathlib.Core.List.{List, [], ◌∷◌}
 use mathlib.Core.Bool.{Bool, true, false, cond, ◌||◌}
-use mathlib.Core.Path.{◌≡◌, refl, sym, subst}
+use mathlib.Core.Path.{◌≡◌, refl, sym, subst, ap}
 use mathlib.Core.Logic.{◌⊎◌, inl, inr}
 use native.Mathlib.Omega.{arith}
 use lib.Dec.{eqb}
@@ -15,7 +15,7 @@ use Rattle.protocol.specs.declared.FreshNonce.{FreshNonce}
 use Rattle.protocol.specs.declared.EndEntityInput.{EndEntityInput}
 use Rattle.protocol.specs.declared.EnrolmentState.{EnrolmentState}
 use Rattle.protocol.specs.declared.Enrolment.{Enrolment}
-use Rattle.protocol.specs.Types.{FailureInfo}
+use Rattle.protocol.specs.Types.{FailureInfo, ToSend}
 use Rattle.protocol.specs.declared.Outgoing.{Outgoing}
 use Rattle.protocol.specs.declared.EndEntityAnswer.{EndEntityAnswer}
 use Rattle.protocol.specs.declared.Outcome.TheVariants as outcome
@@ -41,8 +41,14 @@ refused-again n b e = let z : ◌≡◌ {A = ℕ} 0 1 = cc in omega arith
 done-again : outcome.Done ≡ outcome.Again → ⊥
 done-again e = let z : ◌≡◌ {A = ℕ} 0 1 = cc in omega arith
 
+nothing_sent : {o : Outgoing} {A : Type 0} → Some o ≡ None → A
+nothing_sent e = let z : ◌≡◌ {A = ℕ} 0 1 = cc in absurd (omega arith)
+
+same_sent : {o p : Outgoing} → Some o ≡ Some p → o ≡ p
+same_sent e = cc
+
 module _ (x : Enrolment) where
-  refusing : (ns : List ℕ) (k : ℕ) (b : FailureInfo) (f : ReadFault) → OneOf k ns → EndEntityPromise ns x (record { outcome = outcome.Refused k b; fault = f; sends = false; outgoing = silent; enrolment = x })
+  refusing : (ns : List ℕ) (k : ℕ) (b : FailureInfo) (f : ReadFault) → OneOf k ns → EndEntityPromise ns x (record { outcome = outcome.Refused k b; fault = f; outgoing = None; enrolment = x })
   refusing ns k b f i =
       record {
         number = λ n c e. subst (λ (j : ℕ). OneOf j ns) (refused-number k n b c e) i;
@@ -50,11 +56,11 @@ module _ (x : Enrolment) where
         never = refused-again k b;
         id = refl;
         kind = refl;
-        sends = λ e. true_false (sym e);
+        sends = λ o e. nothing_sent (sym e);
       }
 
-  doing : (ns : List ℕ) (y : Enrolment) (s : Bool) (o : Outgoing) → y.id ≡ x.id → y.kind ≡ x.kind → (s ≡ true → o.kind ≡ 24) → EndEntityPromise ns x (record { outcome = outcome.Done; fault = no_fault; sends = s; outgoing = o; enrolment = y })
-  doing ns y s o i k q =
+  doing : (ns : List ℕ) (y : Enrolment) (o : ToSend) → y.id ≡ x.id → y.kind ≡ x.kind → ((p : Outgoing) → o ≡ Some p → p.kind ≡ 24) → EndEntityPromise ns x (record { outcome = outcome.Done; fault = no_fault; outgoing = o; enrolment = y })
+  doing ns y o i k q =
       record {
         number = λ n c e. done_refused n c e;
         unchanged = λ n c e. done_refused n c e;
@@ -65,7 +71,7 @@ module _ (x : Enrolment) where
       }
 
   moving : (ns : List ℕ) (s : EnrolmentState) → EndEntityPromise ns x (enrolment_moved (in_state x s))
-  moving ns s = doing ns (in_state x s) false silent refl refl (λ e. true_false (sym e))
+  moving ns s = doing ns (in_state x s) None refl refl (λ o e. nothing_sent (sym e))
 
   pub time_out_promise : EndEntityPromise (31 ∷ []) x (end_entity_time_out x)
   unfolding end_entity_time_out
@@ -89,7 +95,7 @@ module _ (x : Enrolment) where
   checked_promise d m (stop k) e = refused-after k m (row_number d.good m k e)
   checked_promise d m pass e =
       answered_by x d m Kept e (λ _. moving end_entity_numbers (assured x.state)) (λ _. moving end_entity_numbers (broken_state x.state))
-      (λ _. cases Kept (eqb (status_or0 m.status) 2) _ _ (λ _. moving end_entity_numbers Failed) (λ _. doing end_entity_numbers _ true _ refl refl (λ _. refl)))
+      (λ _. cases Kept (eqb (status_or0 m.status) 2) _ _ (λ _. moving end_entity_numbers Failed) (λ _. doing end_entity_numbers _ (Some _) refl refl (λ p e. ap (λ (o : Outgoing). o.kind) (sym (same_sent e)))))
 
   read_number_lem : (b : Bool) → OneOf (cond b 1 2) end_entity_numbers
   read_number_lem true = inl refl
@@ -108,7 +114,7 @@ module _ (x : Enrolment) where
 
 start-at :
     (k : ℕ) (i : TransactionId) (n : FreshNonce) (t : Bool) → (m : ℕ) (b : FailureInfo) →
-    (cond t (record { outcome = outcome.Done; fault = no_fault; sends = true; outgoing = request_out k i n; enrolment = started_enrolment k i n }) (enrolment_refused 32 no_enrolment)).outcome ≡ outcome.Refused m b →
+    (cond t (record { outcome = outcome.Done; fault = no_fault; outgoing = Some (request_out k i n); enrolment = started_enrolment k i n }) (enrolment_refused 32 no_enrolment)).outcome ≡ outcome.Refused m b →
     (m ≡ 32) × (t ≡ false)
 start-at k i n true m b e = done_refused m b e
 start-at k i n false m b e = (sym (refused-number 32 m _ b e), refl)
@@ -151,7 +157,7 @@ start_rule k i n =
     record {
       asked = λ r. rw (request-kind k r);
       sent = λ r. rw (request-kind k r);
-      done = λ r. (rw (request-kind k r), rw (request-kind k r));
+      done = λ r. rw (request-kind k r);
       else = λ d. (rw (not_request k d _ refl), rw (not_request k d _ refl));
     }
 

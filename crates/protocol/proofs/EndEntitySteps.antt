@@ -47,7 +47,7 @@ by_reading true bytes past q = q
 
 module _ (w : World) (v : Inv w) (k : ℕ) (x : BoardEnrolment) (here : At w.enrolments k x) where
   abbrev pub EnrolmentStep : EndEntityAnswer → Type 0
-  EnrolmentStep a = EndEntityStep w.past w.enrolments (set w.enrolments k (record { board = x.board; enrolment = a.enrolment })) x.board (sent_by a.sends a.outgoing) none
+  EnrolmentStep a = EndEntityStep w.past w.enrolments (set w.enrolments k (record { board = x.board; enrolment = a.enrolment })) x.board (sent_by a.outgoing) none
 
   refused : (n : ℕ) → EnrolmentStep (enrolment_refused n x.enrolment)
   refused n = board-one w v k x x none here (kept_same x) (λ p e c. none_some e) (λ s t. inr (v.sent k x s here t)) (v.answered k x here)

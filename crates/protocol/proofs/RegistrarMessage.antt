@@ -195,13 +195,13 @@ module _ (w : World) (v : Inv w) (bytes : List ℕ) (m : Message) (d : Registrar
   abbrev fields : Fields
   fields = fields_of bytes m
 
-  error_quiet : (t : Bool) (i : TransactionId) (n : FreshNonce) (a : Nonce) (b : FailureInfo) → Quiet (sent_by t (cond t (error_out i n a b) silent))
+  error_quiet : (t : Bool) (i : TransactionId) (n : FreshNonce) (a : Nonce) (b : FailureInfo) → Quiet (sent_by (cond t (Some (error_out i n a b)) None))
   error_quiet true i n a b p e k = let z : ◌≡◌ {A = ℕ} 23 19 = ap (λ (y : Outgoing). y.kind) (some_some e) ∙ k in omega arith
   error_quiet false i n a b p e k = none_some e
 
   checked : ByReading d.verdict bytes (Ok m) w.past → (g : Option Transaction) → lookup (recs w v) (as_id fields.id) ≡ g → (k : LowestRow) → lowest_row (registrar_rows (recs w v) g d.verdict fields) ≡ k → StepOf w v (open_still w v) (registrar_checked k g w.table d fields)
   unfolding registrar_checked
-  checked q g h (stop k) e = registrar_idle w v (sent_by (leb 6 k) _) (error_quiet (leb 6 k) _ _ _ _)
+  checked q g h (stop k) e = registrar_idle w v (sent_by (cond (leb 6 k) _ None)) (error_quiet (leb 6 k) _ _ _ _)
   checked q g h pass e =
       taken_by w.table d fields (StepOf w v (open_still w v)) g e
       (λ o n p. opens w v fields d.nonce d.verdict (h ∙ n) (room (recs w v) none d.verdict fields p o))

@@ -1,5 +1,5 @@
 -- Every call of the registrar keeps demand 1's promise, on any table.
-use Rattle.std.specs.Prelude.{Ok, Err}
+use Rattle.std.specs.Prelude.{Ok, Err, Some}
 use Prim.Native.Nat.{ℕ}
 use mathlib.Core.List.{List}
 use mathlib.Core.Bool.{Bool, true, false, cond}
@@ -18,7 +18,7 @@ use Rattle.protocol.specs.declared.Hash.{Hash}
 use Rattle.protocol.specs.declared.RegistrarInput.{RegistrarInput}
 use Rattle.protocol.specs.declared.Transaction.{Transaction}
 use Rattle.protocol.specs.declared.TransactionTable.{TransactionTable}
-use Rattle.protocol.specs.Types.{FailureInfo}
+use Rattle.protocol.specs.Types.{FailureInfo, ToSend}
 use Rattle.protocol.specs.declared.Outgoing.{Outgoing}
 use Rattle.protocol.specs.declared.RegistrarAnswer.{RegistrarAnswer}
 use Rattle.protocol.specs.declared.Outcome.TheVariants as outcome
@@ -63,8 +63,8 @@ module _ (ns : List ℕ) (t : TransactionTable) where
   at_most_one p u c o = unique_one u.transactions (c.one (one_unique t.transactions o))
 
   -- refused: the table is the same
-  refusing : (k : ℕ) (c : FailureInfo) (f : ReadFault) (s : Bool) (o : Outgoing) → OneOf k ns → RegistrarPromise ns t (record { outcome = outcome.Refused k c; fault = f; slot = record { 0 = 0 }; sends = s; outgoing = o; table = t })
-  refusing k c f s o i =
+  refusing : (k : ℕ) (c : FailureInfo) (f : ReadFault) (o : ToSend) → OneOf k ns → RegistrarPromise ns t (record { outcome = outcome.Refused k c; fault = f; slot = record { 0 = 0 }; outgoing = o; table = t })
+  refusing k c f o i =
       record {
         number = λ n b e. subst (λ (j : ℕ). OneOf j ns) (refused-number k n c b e) i;
         unchanged = λ n b e. refl;
@@ -75,8 +75,8 @@ module _ (ns : List ℕ) (t : TransactionTable) where
       }
 
   -- done: the table changes at the slot
-  doing : (p : ℕ) (s : Bool) (o : Outgoing) (u : TransactionTable) → Change t p u → RegistrarPromise ns t (record { outcome = outcome.Done; fault = no_fault; slot = record { 0 = p }; sends = s; outgoing = o; table = u })
-  doing p s o u c =
+  doing : (p : ℕ) (o : ToSend) (u : TransactionTable) → Change t p u → RegistrarPromise ns t (record { outcome = outcome.Done; fault = no_fault; slot = record { 0 = p }; outgoing = o; table = u })
+  doing p o u c =
       record {
         number = λ n b e. done_refused n b e;
         unchanged = λ n b e. done_refused n b e;
@@ -86,7 +86,7 @@ module _ (ns : List ℕ) (t : TransactionTable) where
         unset = c.unset;
       }
 
-  repeating : (p : ℕ) (o : Outgoing) → RegistrarPromise ns t (record { outcome = outcome.Again; fault = no_fault; slot = record { 0 = p }; sends = true; outgoing = o; table = t })
+  repeating : (p : ℕ) (o : Outgoing) → RegistrarPromise ns t (record { outcome = outcome.Again; fault = no_fault; slot = record { 0 = p }; outgoing = Some o; table = t })
   repeating p o =
       record {
         number = λ n b e. again-refused n b e;
@@ -119,8 +119,8 @@ module _ (t : TransactionTable) (i : TransactionId) where
   Promise = RegistrarPromise host_numbers t
 
   host : (ok : Transaction → Bool) (g : Transaction → RegistrarAnswer) (f : Option Transaction) → ((r : Transaction) → f ≡ some r → ok r ≡ true → Promise (g r)) → Promise (host_step f t ok g)
-  host ok g none s = refusing host_numbers t 30 _ _ _ _ (inl refl)
-  host ok g (some r) s = cases Promise (ok r) (g r) (refused_quietly 31 t) (λ q. s r refl q) (λ _. refusing host_numbers t 31 _ _ _ _ (inr (inl refl)))
+  host ok g none s = refusing host_numbers t 30 _ _ _ (inl refl)
+  host ok g (some r) s = cases Promise (ok r) (g r) (refused_quietly 31 t) (λ q. s r refl q) (λ _. refusing host_numbers t 31 _ _ _ (inr (inl refl)))
 
   own_id : (r : Transaction) → lookup rs i ≡ some r → r.id ≡ i
   own_id r h = is_for-id i r (found rs i r h)
@@ -128,7 +128,7 @@ module _ (t : TransactionTable) (i : TransactionId) where
   pub issue-promise : (n : FreshNonce) (h : Hash) → Promise (registrar_issue t i n h)
   unfolding registrar_issue
   issue-promise n h =
-      host may_issue _ (lookup rs i) (λ r e q. doing host_numbers t _ _ _ _ (replacing t i r (responded r at_registrar.Granted (nonce_from n) h) e (λ _. own_id r e) (λ _. full _ refl refl refl)))
+      host may_issue _ (lookup rs i) (λ r e q. doing host_numbers t _ _ _ (replacing t i r (responded r at_registrar.Granted (nonce_from n) h) e (λ _. own_id r e) (λ _. full _ refl refl refl)))
 
   -- at Asked no hash is set, so none is set at Refused
   refused-unset : (r : Transaction) (n : Nonce) → is_asked r.state ≡ true → UnsetZero r → UnsetZero (responded r at_registrar.Refused n r.hash)
@@ -137,16 +137,16 @@ module _ (t : TransactionTable) (i : TransactionId) where
   pub refuse-promise : (n : FreshNonce) → Promise (registrar_refuse t i n)
   unfolding registrar_refuse
   refuse-promise n =
-      host may_refuse _ (lookup rs i) (λ r e q. doing host_numbers t _ _ _ _ (replacing t i r (responded r at_registrar.Refused (nonce_from n) r.hash) e (λ _. own_id r e) (refused-unset r (nonce_from n) q)))
+      host may_refuse _ (lookup rs i) (λ r e q. doing host_numbers t _ _ _ (replacing t i r (responded r at_registrar.Refused (nonce_from n) r.hash) e (λ _. own_id r e) (refused-unset r (nonce_from n) q)))
 
   pub lapse-promise : Promise (registrar_lapse t i)
   unfolding registrar_lapse
   lapse-promise =
-      host may_lapse _ (lookup rs i) (λ r e q. doing host_numbers t _ _ _ _ (replacing t i r (settled r at_registrar.Lapsed r.taken) e (λ _. own_id r e) (λ _. full _ refl refl refl)))
+      host may_lapse _ (lookup rs i) (λ r e q. doing host_numbers t _ _ _ (replacing t i r (settled r at_registrar.Lapsed r.taken) e (λ _. own_id r e) (λ _. full _ refl refl refl)))
 
   pub close-promise : Promise (registrar_close t i)
   unfolding registrar_close
-  close-promise = host may_close _ (lookup rs i) (λ r e q. doing host_numbers t _ _ _ _ (replacing t i r free_transaction e (λ f. true_false f) (λ _. free-unset)))
+  close-promise = host may_close _ (lookup rs i) (λ r e q. doing host_numbers t _ _ _ (replacing t i r free_transaction e (λ f. true_false f) (λ _. free-unset)))
 
 -- ## A message
 
@@ -173,19 +173,19 @@ module _ (t : TransactionTable) (d : RegistrarInput) where
 
   checked_promise : (m : Fields) (f : Option Transaction) → lookup t.transactions (as_id m.id) ≡ f → (c : LowestRow) → lowest_row (registrar_rows t.transactions f d.verdict m) ≡ c → Kept (registrar_checked c f t d m)
   unfolding registrar_checked
-  checked_promise m f h (stop k) e = refusing registrar_numbers t k _ _ _ _ (row_number f m k e)
+  checked_promise m f h (stop k) e = refusing registrar_numbers t k _ _ _ (row_number f m k e)
   checked_promise m f h pass e =
-      taken_by t d m Kept f e (λ _ n _. doing registrar_numbers t _ _ _ _ (putting t (opened_transaction d.verdict m) (h ∙ n) (opened-unset m)))
+      taken_by t d m Kept f e (λ _ n _. doing registrar_numbers t _ _ _ (putting t (opened_transaction d.verdict m) (h ∙ n) (opened-unset m)))
       (λ r _ n _.
       cases Kept (is_granted r.state) _ _
       (λ _.
-      doing registrar_numbers t _ _ _ _
+      doing registrar_numbers t _ _ _
       (replacing t (as_id m.id) r (settled r (settled_state (status_or0 m.status)) (as_nonce m.sender_nonce)) (h ∙ n) (λ _. own_id t (as_id m.id) r (h ∙ n)) (λ _. settled_full (status_or0 m.status) r (as_nonce m.sender_nonce) (eqb (status_or0 m.status) 0))))
       (λ _. repeating registrar_numbers t _ _))
 
   read_promise : (bytes : List ℕ) (r : Reading) → Kept (registrar_read r t d bytes)
   unfolding registrar_read registrar_fields
-  read_promise bytes (Err f) = refusing registrar_numbers t (read_refusal f) _ _ _ _ (read_number_lem (eqb f.number 1))
+  read_promise bytes (Err f) = refusing registrar_numbers t (read_refusal f) _ _ _ (read_number_lem (eqb f.number 1))
   read_promise bytes (Ok m) = checked_promise (fields_of bytes m) (lookup t.transactions (as_id (fields_of bytes m).id)) refl (lowest_row (registrar_rows t.transactions (lookup t.transactions (as_id (fields_of bytes m).id)) d.verdict (fields_of bytes m))) refl
 
   pub message-promise : (bytes : List ℕ) → Kept (registrar_message t d bytes)

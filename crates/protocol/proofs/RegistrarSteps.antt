@@ -63,7 +63,7 @@ module _ (w : World) (v : Inv w) where
       settles
 
   abbrev pub StepOf : (RegistrarAnswer → Option TransactionId) → RegistrarAnswer → Type 0
-  StepOf cl a = RegistrarStep w.past w.table a.table (sent_by a.sends a.outgoing) (cl a)
+  StepOf cl a = RegistrarStep w.past w.table a.table (sent_by a.outgoing) (cl a)
 
   host :
       (cl : RegistrarAnswer → Option TransactionId) (ok : Transaction → Bool) (g : Transaction → RegistrarAnswer) (f : Option Transaction) →

@@ -197,7 +197,7 @@ module _ (t : TransactionTable) (d : RegistrarInput) (bytes : List ℕ) (m : Mes
         record {
           done = refl;
           fault = refl;
-          silently = (refl, refl);
+          silently = refl;
           asked = put_only t new (put_there rs new room_it);
           was_free = was_free_lem rs room_it;
           lowest = lowest-free rs;

@@ -1,5 +1,5 @@
 -- The host steps, the error messages and the corners of the table are as 01 says.
-use Rattle.std.specs.Prelude.{Ok, Err}
+use Rattle.std.specs.Prelude.{Ok, Err, Some, None}
 use Prim.Native.Nat.{ℕ, ◌<◌, ◌≤◌}
 use mathlib.Core.List.{List}
 use mathlib.Core.Bool.{Bool, true, false, not, cond, ◌&&◌}
@@ -19,7 +19,7 @@ use Rattle.protocol.specs.declared.TransactionState.{TransactionState}
 use Rattle.protocol.specs.declared.Transaction.{Transaction}
 use Rattle.protocol.specs.declared.TransactionTable.{TransactionTable}
 use Rattle.protocol.specs.declared.Enrolment.{Enrolment}
-use Rattle.protocol.specs.Types.{FailureInfo}
+use Rattle.protocol.specs.Types.{FailureInfo, ToSend}
 use Rattle.protocol.specs.declared.Outgoing.{Outgoing}
 use Rattle.protocol.specs.declared.RegistrarAnswer.{RegistrarAnswer}
 use Rattle.protocol.specs.declared.TransactionState.TheVariants as at_registrar
@@ -71,42 +71,42 @@ pub host_rules : (t : TransactionTable) (i : TransactionId) → HostRules t i
 unfolding registrar_issue registrar_refuse registrar_lapse registrar_close
 host_rules t i =
     record {
-      issue = λ n h. host_rule t i (λ s. s ≡ at_registrar.Asked) may_issue (λ r e. rw e) (λ r. not_asked r.state) _ _ (λ r e. (sending_becomes t i r _ e _, (request_number r.kind, number_is r.kind _ refl, (refl, refl))));
-      refuse = λ n. host_rule t i (λ s. s ≡ at_registrar.Asked) may_refuse (λ r e. rw e) (λ r. not_asked r.state) _ _ (λ r e. (sending_becomes t i r _ e _, (request_number r.kind, number_is r.kind _ refl, (refl, refl))));
-      lapse = host_rule t i (λ s. s ≡ at_registrar.Granted) may_lapse (λ r e. rw e) (λ r. not_granted r.state) _ _ (λ r e. (quietly_becomes t i r _ e, (refl, refl)));
-      close = host_rule t i MayClose may_close (λ r. may_close_lem r.state) (λ r. not_close r.state) _ _ (λ r e. (quietly_becomes t i r _ e, (refl, refl)));
+      issue = λ n h. host_rule t i (λ s. s ≡ at_registrar.Asked) may_issue (λ r e. rw e) (λ r. not_asked r.state) _ _ (λ r e. (sending_becomes t i r _ e _, (request_number r.kind, number_is r.kind _ refl, refl)));
+      refuse = λ n. host_rule t i (λ s. s ≡ at_registrar.Asked) may_refuse (λ r e. rw e) (λ r. not_asked r.state) _ _ (λ r e. (sending_becomes t i r _ e _, (request_number r.kind, number_is r.kind _ refl, refl)));
+      lapse = host_rule t i (λ s. s ≡ at_registrar.Granted) may_lapse (λ r e. rw e) (λ r. not_granted r.state) _ _ (λ r e. (quietly_becomes t i r _ e, refl));
+      close = host_rule t i MayClose may_close (λ r. may_close_lem r.state) (λ r. not_close r.state) _ _ (λ r e. (quietly_becomes t i r _ e, refl));
     }
 
 -- ## What a refused message sends
 
-sends-at : (k : ℕ) (i : TransactionId) (n : FreshNonce) (a : Nonce) (c : FailureInfo) (t : Bool) → leb 6 k ≡ t → (j : ℕ) (b : FailureInfo) → outcome.Refused k c ≡ outcome.Refused j b → 6 ≤ j → (t ≡ true) × (cond t (error_out i n a c) silent ≡ error_message i n a b)
-sends-at k i n a c true h j b e l = (refl, ap (error_message i n a) (refused-bit k j c b e))
+sends-at : (k : ℕ) (i : TransactionId) (n : FreshNonce) (a : Nonce) (c : FailureInfo) (t : Bool) → leb 6 k ≡ t → (j : ℕ) (b : FailureInfo) → outcome.Refused k c ≡ outcome.Refused j b → 6 ≤ j → cond t (Some (error_out i n a c)) None ≡ Some (error_message i n a b)
+sends-at k i n a c true h j b e l = ap (λ (f : FailureInfo). Some (error_message i n a f)) (refused-bit k j c b e)
 sends-at k i n a c false h j b e l = true_false (sym (T→true (leb 6 k) (le→leb 6 k (subst (λ (z : ℕ). 6 ≤ z) (sym (refused-number k j c b e)) l))) ∙ h)
 
-below_at : (k : ℕ) (t : Bool) → leb 6 k ≡ t → k < 6 → t ≡ false
-below_at k true h l = let z : 6 ≤ k = leb→le 6 k (true→T (leb 6 k) h) in absurd (omega arith)
-below_at k false h l = refl
+below_at : (k : ℕ) (o : Outgoing) (t : Bool) → leb 6 k ≡ t → k < 6 → cond t (Some o) None ≡ None
+below_at k o true h l = let z : 6 ≤ k = leb→le 6 k (true→T (leb 6 k) h) in absurd (omega arith)
+below_at k o false h l = refl
 
 module _ (t : TransactionTable) (d : RegistrarInput) (m : Fields) where
   abbrev Rule : RegistrarAnswer → Type 0
   Rule = ErrorRule (as_id m.id) d.nonce (as_nonce m.sender_nonce)
 
-  not_refused : (p : ℕ) (s : Bool) (o : Outgoing) (u : TransactionTable) → Rule (record { outcome = outcome.Done; fault = no_fault; slot = record { 0 = p }; sends = s; outgoing = o; table = u })
-  not_refused p s o u = record { from6 = λ k b e. done_refused k b e; below6 = λ k b e. done_refused k b e }
+  not_refused : (p : ℕ) (o : ToSend) (u : TransactionTable) → Rule (record { outcome = outcome.Done; fault = no_fault; slot = record { 0 = p }; outgoing = o; table = u })
+  not_refused p o u = record { from6 = λ k b e. done_refused k b e; below6 = λ k b e. done_refused k b e }
 
   refusing : (f : Option Transaction) (k : ℕ) → Rule (refused_message k f t d.nonce m)
   refusing f k =
       record {
         from6 = λ j b e l. sends-at k _ _ _ _ (leb 6 k) refl j b e l;
-        below6 = λ j b e l. below_at k (leb 6 k) refl (subst (λ (z : ℕ). z < 6) (sym (refused-number k j _ b e)) l);
+        below6 = λ j b e l. below_at k _ (leb 6 k) refl (subst (λ (z : ℕ). z < 6) (sym (refused-number k j _ b e)) l);
       }
 
   error_checked : (f : Option Transaction) (c : LowestRow) → lowest_row (registrar_rows t.transactions f d.verdict m) ≡ c → Rule (registrar_checked c f t d m)
   unfolding registrar_checked
   error_checked f (stop k) e = refusing f k
   error_checked f pass e =
-      taken_by t d m Rule f e (λ _ _ _. not_refused _ _ _ _)
-      (λ r _ _ _. cases Rule (is_granted r.state) _ _ (λ _. not_refused _ _ _ _) (λ _. record { from6 = λ k b e. again-refused k b e; below6 = λ k b e. again-refused k b e }))
+      taken_by t d m Rule f e (λ _ _ _. not_refused _ _ _)
+      (λ r _ _ _. cases Rule (is_granted r.state) _ _ (λ _. not_refused _ _ _) (λ _. record { from6 = λ k b e. again-refused k b e; below6 = λ k b e. again-refused k b e }))
 
 -- a message that reads
 pub error_rule : (t : TransactionTable) (d : RegistrarInput) (bytes : List ℕ) (m : Message) → reading_of bytes ≡ Ok m → ErrorRule (as_id (fields_of bytes m).id) d.nonce (as_nonce (fields_of bytes m).sender_nonce) (registrar_message t d bytes)
@@ -114,7 +114,7 @@ unfolding registrar_fields
 error_rule t d bytes m e = rw (message-at t d bytes m e) (error_checked t d (fields_of bytes m) (lookup t.transactions (as_id (fields_of bytes m).id)) (lowest_row (registrar_rows t.transactions (lookup t.transactions (as_id (fields_of bytes m).id)) d.verdict (fields_of bytes m))) refl)
 
 -- one that does not read sends nothing
-pub unread_silent : (t : TransactionTable) (d : RegistrarInput) (bytes : List ℕ) (f : ReadFault) → reading_of bytes ≡ Err f → (registrar_message t d bytes).sends ≡ false
+pub unread_silent : (t : TransactionTable) (d : RegistrarInput) (bytes : List ℕ) (f : ReadFault) → reading_of bytes ≡ Err f → (registrar_message t d bytes).outgoing ≡ None
 unfolding registrar_message registrar_read
 unread_silent t d bytes f e = rw e
 

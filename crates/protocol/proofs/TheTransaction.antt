@@ -72,13 +72,13 @@ module _ (t : TransactionTable) (p : ℕ) (x : Transaction) (u v : TransactionTa
   same-table = same_list u.transactions v.transactions (λ q. same_at q (ℕ_discrete q p))
 
 -- two answers of which the same is said are the same, whatever the table
-pub one_answer : (t : TransactionTable) (i : TransactionId) (r x : Transaction) (a b : RegistrarAnswer) → Becomes t i r x a → Becomes t i r x b → a.sends ≡ b.sends → a.outgoing ≡ b.outgoing → a ≡ b
-one_answer t i r x a b g h s o =
+pub one_answer : (t : TransactionTable) (i : TransactionId) (r x : Transaction) (a b : RegistrarAnswer) → Becomes t i r x a → Becomes t i r x b → a.outgoing ≡ b.outgoing → a ≡ b
+one_answer t i r x a b g h o =
     let m = g.held.first b.slot.0 r h.held.holds in
     let n = h.held.first a.slot.0 r g.held.holds in
     let p : a.slot.0 ≡ b.slot.0 = omega (arith, m, n) in
     let u : a.table.transactions ≡ b.table.transactions = same-table t a.slot.0 x a.table b.table g.only (subst (λ (q : ℕ). OnlyAt t q x b.table) (sym p) h.only) in
-    λ j. record { outcome = (g.done ∙ sym h.done) j; fault = (g.fault ∙ sym h.fault) j; slot = record { 0 = p j }; sends = s j; outgoing = o j; table = record { transactions = u j } }
+    λ j. record { outcome = (g.done ∙ sym h.done) j; fault = (g.fault ∙ sym h.fault) j; slot = record { 0 = p j }; outgoing = o j; table = record { transactions = u j } }
 
 -- the same of "again"
 pub one-repeat : (t : TransactionTable) (d : RegistrarInput) (r : Transaction) (i : TransactionId) (n : Nonce) (a b : RegistrarAnswer) → RepeatedAnswer t d r i n a → RepeatedAnswer t d r i n b → a ≡ b
@@ -86,7 +86,7 @@ one-repeat t d r i n a b g h =
     let u = g.held.first b.slot.0 r h.held.holds in
     let v = h.held.first a.slot.0 r g.held.holds in
     let p : a.slot.0 ≡ b.slot.0 = omega (arith, u, v) in
-    λ j. record { outcome = (g.again ∙ sym h.again) j; fault = (g.fault ∙ sym h.fault) j; slot = record { 0 = p j }; sends = (g.sends.0 ∙ sym h.sends.0) j; outgoing = (g.sends.1 ∙ sym h.sends.1) j; table = (g.table ∙ sym h.table) j }
+    λ j. record { outcome = (g.again ∙ sym h.again) j; fault = (g.fault ∙ sym h.fault) j; slot = record { 0 = p j }; outgoing = (g.sends ∙ sym h.sends) j; table = (g.table ∙ sym h.table) j }
 
 -- and of an opening
 pub one_opening : (t : TransactionTable) (kind : ℕ) (c : Board) (i : TransactionId) (n : Nonce) (a b : RegistrarAnswer) → Opened t kind c i n a → Opened t kind c i n b → a ≡ b
@@ -96,4 +96,4 @@ one_opening t kind c i n a b g h =
     let p : a.slot.0 ≡ b.slot.0 = omega (arith, u, v) in
     let x : Transaction = record { id = i; board = c; kind = kind; taken = n; sent = record { bytes = replicate 16 0 }; hash = record { bytes = replicate 32 0 }; state = Asked } in
     let s : a.table.transactions ≡ b.table.transactions = same-table t a.slot.0 x a.table b.table g.asked (subst (λ (q : ℕ). OnlyAt t q x b.table) (sym p) h.asked) in
-    λ j. record { outcome = (g.done ∙ sym h.done) j; fault = (g.fault ∙ sym h.fault) j; slot = record { 0 = p j }; sends = (g.silently.0 ∙ sym h.silently.0) j; outgoing = (g.silently.1 ∙ sym h.silently.1) j; table = record { transactions = s j } }
+    λ j. record { outcome = (g.done ∙ sym h.done) j; fault = (g.fault ∙ sym h.fault) j; slot = record { 0 = p j }; outgoing = (g.silently ∙ sym h.silently) j; table = record { transactions = s j } }

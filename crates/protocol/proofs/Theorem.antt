@@ -1,4 +1,5 @@
 -- Demand 3: after any list of fair calls from the beginning, the registrar and its boards agree.
+use Rattle.std.specs.Prelude.{Some}
 use Prim.Native.Nat.{ℕ}
 use mathlib.Core.List.{List, [], ◌∷◌}
 use mathlib.Core.Bool.{Bool, true, false, cond}
@@ -81,7 +82,7 @@ abbrev did : World → Board → ℕ → TransactionId → FreshNonce → EndEnt
 did w b k i n a = start_did w (Start b k i n) b a (unless_refused a.outcome i)
 
 start-at : (w : World) (b : Board) (k : ℕ) (i : TransactionId) (n : FreshNonce) → Inv w → (t : Bool) → is_starting_kind k ≡ t
-    → (let a : EndEntityAnswer = cond t (record { outcome = Done; fault = no_fault; sends = true; outgoing = request_out k i n; enrolment = started_enrolment k i n }) (enrolment_refused 32 no_enrolment) in Fair (did w b k i n a).past → Inv (did w b k i n a))
+    → (let a : EndEntityAnswer = cond t (record { outcome = Done; fault = no_fault; outgoing = Some (request_out k i n); enrolment = started_enrolment k i n }) (enrolment_refused 32 no_enrolment) in Fair (did w b k i n a).past → Inv (did w b k i n a))
 start-at w b k i n v true o f = board_preserves w (Start b k i n) b (some (request_out k i n)) (some i) (forms.more w v b k i n) v f.0.id (forms.start-step w v b k i n o)
 start-at w b k i n v false o f = board_preserves w (Start b k i n) b none none w.enrolments v f.0.id (forms.board-none w v b)
 
@@ -95,7 +96,7 @@ enrolment-at w v c k f (some y) h q s =
     w
     c
     y.board
-    (sent_by (f y.enrolment).sends (f y.enrolment).outgoing)
+    (sent_by (f y.enrolment).outgoing)
     none
     (set w.enrolments k (record { board = y.board; enrolment = (f y.enrolment).enrolment }))
     v
@@ -103,7 +104,7 @@ enrolment-at w v c k f (some y) h q s =
     (s q.0.verdict y h)
 
 registrar_at : (w : World) (v : Inv w) (c : Call) (cl : RegistrarAnswer → Option TransactionId) (a : RegistrarAnswer) → StepOf w v cl a → Inv (registrar_did w c (cl a) a)
-registrar_at w v c cl a s = registrar_preserves w c (sent_by a.sends a.outgoing) (cl a) a.table v s
+registrar_at w v c cl a s = registrar_preserves w c (sent_by a.outgoing) (cl a) a.table v s
 
 step_preserves : (w : World) (c : Call) → Inv w → Fair (step w c).past → Inv (step w c)
 unfolding step end_entity_start

@@ -1,5 +1,5 @@
 -- "The board's states": an end entity's calls on one enrolment. The start, a message, and a time out.
-use Rattle.std.specs.Prelude.{ℕ, List, Bool, true, false, cond, ◌||◌, eqb, Ok, Err}
+use Rattle.std.specs.Prelude.{ℕ, List, Bool, true, false, cond, ◌||◌, eqb, Ok, Err, None, Some}
 use Rattle.message.specs.Read.{reading_of}
 use Rattle.message.specs.declared.ReadFault.{ReadFault}
 use Rattle.message.specs.Types.{Reading}
@@ -24,14 +24,14 @@ use Rattle.protocol.specs.EndEntityRows.{acknowledges, reports, responds, end_en
 
 -- refused, with nothing to send ("a board never does")
 abbrev pub enrolment_refused : ℕ → Enrolment → EndEntityAnswer
-enrolment_refused k x = record { outcome = outcome.Refused k (bit_of k false); fault = no_fault; sends = false; outgoing = silent; enrolment = x }
+enrolment_refused k x = record { outcome = outcome.Refused k (bit_of k false); fault = no_fault; outgoing = None; enrolment = x }
 
 -- the bytes do not read: the reader's refusal, with its fault
 abbrev pub enrolment_unread : ReadFault → Enrolment → EndEntityAnswer
-enrolment_unread f x = record { outcome = outcome.Refused (read_refusal f) (bit_of (read_refusal f) false); fault = f; sends = false; outgoing = silent; enrolment = x }
+enrolment_unread f x = record { outcome = outcome.Refused (read_refusal f) (bit_of (read_refusal f) false); fault = f; outgoing = None; enrolment = x }
 
 abbrev pub enrolment_moved : Enrolment → EndEntityAnswer
-enrolment_moved x = record { outcome = outcome.Done; fault = no_fault; sends = false; outgoing = silent; enrolment = x }
+enrolment_moved x = record { outcome = outcome.Done; fault = no_fault; outgoing = None; enrolment = x }
 
 -- the enrolment in another state
 abbrev pub in_state : Enrolment → EnrolmentState → Enrolment
@@ -51,7 +51,7 @@ no_enrolment = record { id = no_id; kind = 0; last = no_nonce; taken = no_nonce;
 unfoldable pub end_entity_start : ℕ → TransactionId → FreshNonce → EndEntityAnswer
 end_entity_start k i n =
     cond (is_starting_kind k)
-    (record { outcome = outcome.Done; fault = no_fault; sends = true; outgoing = request_out k i n; enrolment = started_enrolment k i n })
+    (record { outcome = outcome.Done; fault = no_fault; outgoing = Some (request_out k i n); enrolment = started_enrolment k i n })
     (enrolment_refused 32 no_enrolment)
 
 -- ## A message
@@ -67,7 +67,7 @@ confirmed_enrolment x accept h n a = record { id = x.id; kind = x.kind; last = n
 -- "0 or 1 gives, by the host's decision, Confirming or Declining, with the host's hash and a certConf order of status 0 or 2"
 abbrev pub confirming : Enrolment → Bool → Hash → FreshNonce → Nonce → EndEntityAnswer
 confirming x accept h n a =
-    record { outcome = outcome.Done; fault = no_fault; sends = true; outgoing = cert_conf_out x.kind x.id n a (decision accept) h; enrolment = confirmed_enrolment x accept h n a }
+    record { outcome = outcome.Done; fault = no_fault; outgoing = Some (cert_conf_out x.kind x.id n a (decision accept) h); enrolment = confirmed_enrolment x accept h n a }
 
 -- "Asked with a response: status 2 gives Failed"
 abbrev pub response_taken : Enrolment → EndEntityInput → Fields → EndEntityAnswer

@@ -60,7 +60,7 @@ pub record Responds (x : Enrolment) (m : Message) (s : ℕ) : Type 0 where
 
 -- done, with nothing to send, and only the state changed
 abbrev pub becomes : Enrolment → EnrolmentState → EndEntityAnswer
-becomes x s = record { outcome = outcome.Done; fault = no_fault; sends = false; outgoing = silent; enrolment = record { id = x.id; kind = x.kind; last = x.last; taken = x.taken; hash = x.hash; state = s } }
+becomes x s = record { outcome = outcome.Done; fault = no_fault; outgoing = None; enrolment = record { id = x.id; kind = x.kind; last = x.last; taken = x.taken; hash = x.hash; state = s } }
 
 -- done, with a certConf of this status for the host's hash, which answers the response's nonce n and has its request number q
 abbrev pub certifies : Enrolment → EndEntityInput → Nonce → (number : ℕ) → EnrolmentState → (status : ℕ) → EndEntityAnswer
@@ -68,16 +68,15 @@ certifies x d n q s status =
     record {
       outcome = outcome.Done;
       fault = no_fault;
-      sends = true;
       outgoing =
-          record {
+          Some (record {
             kind = 24;
             id = x.id;
             sender_nonce = ours d.nonce;
             has_recip_nonce = true;
             recip_nonce = n;
             contents = record { has_status = true; status = status; hash = d.hash; failure = None; has_number = true; number = q };
-          };
+          });
       enrolment = record { id = x.id; kind = x.kind; last = ours d.nonce; taken = n; hash = d.hash; state = s };
     }
 
@@ -99,11 +98,11 @@ pub record EnrolmentRule (x : Enrolment) (d : EndEntityInput) (bytes : List ℕ)
 pub record TimeOutRule (x : Enrolment) : Type 0 where
   pub failed : x.state ≡ Asked → end_entity_time_out x ≡ becomes x Failed
   pub unsettled : (x.state ≡ Confirming) ⊎ (x.state ≡ Declining) → end_entity_time_out x ≡ becomes x Unsettled
-  pub else : (x.state ≡ Sure) ⊎ (x.state ≡ Declined) ⊎ (x.state ≡ Failed) ⊎ (x.state ≡ Unsettled) → end_entity_time_out x ≡ record { outcome = outcome.Refused 31 None; fault = no_fault; sends = false; outgoing = silent; enrolment = x }
+  pub else : (x.state ≡ Sure) ⊎ (x.state ≡ Declined) ⊎ (x.state ≡ Failed) ⊎ (x.state ≡ Unsettled) → end_entity_time_out x ≡ record { outcome = outcome.Refused 31 None; fault = no_fault; outgoing = None; enrolment = x }
 
 -- "Start gives Asked", with the request as the message to be sent; 32: "kind not 0, 2, 4 or 7"
 pub record StartRule (k : ℕ) (i : TransactionId) (n : FreshNonce) : Type 0 where
   pub asked : IsRequest k → (end_entity_start k i n).enrolment ≡ record { id = i; kind = k; last = ours n; taken = record { bytes = replicate 16 0 }; hash = record { bytes = replicate 32 0 }; state = Asked }
-  pub sent : IsRequest k → (end_entity_start k i n).outgoing ≡ record { kind = k; id = i; sender_nonce = ours n; has_recip_nonce = false; recip_nonce = record { bytes = replicate 16 0 }; contents = bare }
-  pub done : IsRequest k → ((end_entity_start k i n).outcome ≡ outcome.Done) × ((end_entity_start k i n).sends ≡ true)
-  pub else : (IsRequest k → ⊥) → ((end_entity_start k i n).outcome ≡ outcome.Refused 32 None) × ((end_entity_start k i n).sends ≡ false)
+  pub sent : IsRequest k → (end_entity_start k i n).outgoing ≡ Some (record { kind = k; id = i; sender_nonce = ours n; has_recip_nonce = false; recip_nonce = record { bytes = replicate 16 0 }; contents = bare })
+  pub done : IsRequest k → (end_entity_start k i n).outcome ≡ outcome.Done
+  pub else : (IsRequest k → ⊥) → ((end_entity_start k i n).outcome ≡ outcome.Refused 32 None) × ((end_entity_start k i n).outgoing ≡ None)

@@ -22,7 +22,7 @@ use Rattle.protocol.specs.Registrar.{registrar_issue, registrar_refuse, registra
 
 -- refused by this number, with no bit and nothing to send, and the table as it was
 abbrev pub host_refusal : ℕ → TransactionTable → RegistrarAnswer
-host_refusal n t = record { outcome = outcome.Refused n None; fault = no_fault; slot = record { 0 = 0 }; sends = false; outgoing = silent; table = t }
+host_refusal n t = record { outcome = outcome.Refused n None; fault = no_fault; slot = record { 0 = 0 }; outgoing = None; table = t }
 
 -- a host step for the id: 30 "id not in the book", 31 "state doesn't allow it", else this
 pub record HostRule (t : TransactionTable) (i : TransactionId) (Allowed : TransactionState → Type 0) (Next : Transaction → RegistrarAnswer → Type 0) (a : RegistrarAnswer) : Type 0 where

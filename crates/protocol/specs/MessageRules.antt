@@ -36,8 +36,8 @@ error_message i n a b =
 -- "For numbers 6 up in message steps the desk also issues an error order with status 2 and that bit": i and a are the message's
 -- id and senderNonce, n the fresh nonce
 pub record ErrorRule (i : TransactionId) (n : FreshNonce) (a : Nonce) (answer : RegistrarAnswer) : Type 0 where
-  pub from6 : (k : ℕ) (b : FailureInfo) → answer.outcome ≡ outcome.Refused k b → 6 ≤ k → (answer.sends ≡ true) × (answer.outgoing ≡ error_message i n a b)
-  pub below6 : (k : ℕ) (b : FailureInfo) → answer.outcome ≡ outcome.Refused k b → k < 6 → answer.sends ≡ false
+  pub from6 : (k : ℕ) (b : FailureInfo) → answer.outcome ≡ outcome.Refused k b → 6 ≤ k → answer.outgoing ≡ Some (error_message i n a b)
+  pub below6 : (k : ℕ) (b : FailureInfo) → answer.outcome ≡ outcome.Refused k b → k < 6 → answer.outgoing ≡ None
 
 -- bytes that do not read are refused by 1 (their length) or 2, both with bit 5
 pub record UnreadRule (f : ReadFault) (o : Outcome) : Type 0 where
@@ -62,8 +62,7 @@ refused_by8 t i n a =
       outcome = outcome.Refused 8 (Some 2);
       fault = no_fault;
       slot = record { 0 = 0 };
-      sends = true;
-      outgoing = error_message i n a (Some 2);
+      outgoing = Some (error_message i n a (Some 2));
       table = t;
     }
 

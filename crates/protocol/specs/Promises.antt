@@ -1,7 +1,8 @@
 -- What demands 1 and 2 ask of every call: its refusals, the lowest row, and what it leaves untouched.
-use Rattle.std.specs.Prelude.{ℕ, ◌≤◌, List, [], ◌∷◌, true, ◌≡◌, ◌⊎◌, ◌≢◌}
+use Rattle.std.specs.Prelude.{ℕ, ◌≤◌, List, [], ◌∷◌, true, ◌≡◌, ◌⊎◌, ◌≢◌, Some}
 use Rattle.std.proofs.Math.Option.{some}
 use Rattle.std.proofs.Math.ListN.{get_elem?}
+use Rattle.protocol.specs.declared.Outgoing.{Outgoing}
 use Rattle.protocol.specs.declared.Transaction.{Transaction}
 use Rattle.protocol.specs.declared.TransactionTable.{TransactionTable}
 use Rattle.protocol.specs.declared.Enrolment.{Enrolment}
@@ -80,7 +81,7 @@ pub record EndEntityPromise (numbers : List ℕ) (x : Enrolment) (a : EndEntityA
   pub id : a.enrolment.id ≡ x.id
   pub kind : a.enrolment.kind ≡ x.kind
   -- "a board never does": what it sends on a message is a certConf and no error
-  pub sends : a.sends ≡ true → a.outgoing.kind ≡ 24
+  pub sends : (o : Outgoing) → a.outgoing ≡ Some o → o.kind ≡ 24
 
 -- ## The lowest row
 

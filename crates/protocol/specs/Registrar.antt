@@ -30,19 +30,19 @@ use Rattle.protocol.specs.RegistrarRows.{opens, confirms, registrar_rows}
 
 -- a refusal with nothing to send: the table as it was
 abbrev pub refused_quietly : ℕ → TransactionTable → RegistrarAnswer
-refused_quietly k t = record { outcome = outcome.Refused k (bit_of k false); fault = no_fault; slot = record { 0 = 0 }; sends = false; outgoing = silent; table = t }
+refused_quietly k t = record { outcome = outcome.Refused k (bit_of k false); fault = no_fault; slot = record { 0 = 0 }; outgoing = None; table = t }
 
 -- the bytes do not read: the reader's refusal, with its fault
 abbrev pub refused_reading : ReadFault → TransactionTable → RegistrarAnswer
-refused_reading f t = record { outcome = outcome.Refused (read_refusal f) (bit_of (read_refusal f) false); fault = f; slot = record { 0 = 0 }; sends = false; outgoing = silent; table = t }
+refused_reading f t = record { outcome = outcome.Refused (read_refusal f) (bit_of (read_refusal f) false); fault = f; slot = record { 0 = 0 }; outgoing = None; table = t }
 
 -- done at this slot, with nothing to send
 abbrev pub done_quietly : ℕ → List Transaction → RegistrarAnswer
-done_quietly p rs = record { outcome = outcome.Done; fault = no_fault; slot = record { 0 = p }; sends = false; outgoing = silent; table = record { transactions = rs } }
+done_quietly p rs = record { outcome = outcome.Done; fault = no_fault; slot = record { 0 = p }; outgoing = None; table = record { transactions = rs } }
 
 -- done at this slot, with this to send
 abbrev pub done_sending : ℕ → List Transaction → Outgoing → RegistrarAnswer
-done_sending p rs o = record { outcome = outcome.Done; fault = no_fault; slot = record { 0 = p }; sends = true; outgoing = o; table = record { transactions = rs } }
+done_sending p rs o = record { outcome = outcome.Done; fault = no_fault; slot = record { 0 = p }; outgoing = Some o; table = record { transactions = rs } }
 
 -- ## A message
 
@@ -61,8 +61,7 @@ refused_message k f t n m =
       outcome = outcome.Refused k (bit_of k (confirmed_at f));
       fault = no_fault;
       slot = record { 0 = 0 };
-      sends = leb 6 k;
-      outgoing = cond (leb 6 k) (error_out (as_id m.id) n (as_nonce m.sender_nonce) (bit_of k (confirmed_at f))) silent;
+      outgoing = cond (leb 6 k) (Some (error_out (as_id m.id) n (as_nonce m.sender_nonce) (bit_of k (confirmed_at f)))) None;
       table = t;
     }
 
@@ -85,7 +84,7 @@ confirmed t r n m =
     let a : Nonce = as_nonce m.sender_nonce in
     cond (is_granted r.state)
     (done_sending (slot_of t.transactions i) (replace t.transactions i (settled r (settled_state (status_or0 m.status)) a)) (pki_conf_out i n a))
-    (record { outcome = outcome.Again; fault = no_fault; slot = record { 0 = slot_of t.transactions i }; sends = true; outgoing = pki_conf_out i n a; table = t })
+    (record { outcome = outcome.Again; fault = no_fault; slot = record { 0 = slot_of t.transactions i }; outgoing = Some (pki_conf_out i n a); table = t })
 
 -- a certConf that no row refuses, of the transaction with its id; without one none comes here (12)
 abbrev pub confirmed_found : Option Transaction → TransactionTable → FreshNonce → Fields → RegistrarAnswer

@@ -1,7 +1,8 @@
 -- A list of calls on one registrar and its boards, from the beginning on, and what each call did.
-use Rattle.std.specs.Prelude.{ℕ, List, [], ◌∷◌, ◌++◌, Bool, true, false, set}
+use Rattle.std.specs.Prelude.{ℕ, List, [], ◌∷◌, ◌++◌, Bool, true, false, set, Some, None}
 use Rattle.std.proofs.Math.Option.{Option, none, some}
 use Rattle.std.proofs.Math.ListN.{get_elem?}
+use Rattle.protocol.specs.Types.{ToSend}
 use Rattle.protocol.specs.declared.Board.{Board}
 use Rattle.protocol.specs.declared.TransactionId.{TransactionId}
 use Rattle.protocol.specs.declared.FreshNonce.{FreshNonce}
@@ -63,9 +64,9 @@ pub record World : Type 0 where
 abbrev pub beginning : World
 beginning = record { table = empty_table; enrolments = []; past = [] }
 
-abbrev pub sent_by : Bool → Outgoing → Option Outgoing
-sent_by true o = some o
-sent_by false o = none
+abbrev pub sent_by : ToSend → Option Outgoing
+sent_by (Some o) = some o
+sent_by None = none
 
 abbrev pub unless_refused : Outcome → TransactionId → Option TransactionId
 unless_refused Done i = some i
@@ -78,7 +79,7 @@ registrar_did w c closed a =
     record {
       table = a.table;
       enrolments = w.enrolments;
-      past = record { call = c; end = TheRegistrar; sent = sent_by a.sends a.outgoing; drawn = none; closed = closed; table = a.table } ∷ w.past;
+      past = record { call = c; end = TheRegistrar; sent = sent_by a.outgoing; drawn = none; closed = closed; table = a.table } ∷ w.past;
     }
 
 -- a board answered: these are the enrolments now, and a start took this id
@@ -87,7 +88,7 @@ board_did w c b drawn enrolments a =
     record {
       table = w.table;
       enrolments = enrolments;
-      past = record { call = c; end = OneBoard b; sent = sent_by a.sends a.outgoing; drawn = drawn; closed = none; table = w.table } ∷ w.past;
+      past = record { call = c; end = OneBoard b; sent = sent_by a.outgoing; drawn = drawn; closed = none; table = w.table } ∷ w.past;
     }
 
 -- "A start that isn't refused adds a record of its board, with the id it was given."

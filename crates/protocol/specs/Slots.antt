@@ -1,5 +1,5 @@
 -- Where a transaction stands, what an answer changes (one slot of the table, and no other), and what it sends.
-use Rattle.std.specs.Prelude.{ℕ, ◌≤◌, true, false, ◌≡◌, ◌≢◌, length, replicate, None}
+use Rattle.std.specs.Prelude.{ℕ, ◌≤◌, true, false, ◌≡◌, ◌≢◌, length, replicate, None, Some}
 use Rattle.std.proofs.Math.Option.{some}
 use Rattle.std.proofs.Math.ListN.{get_elem?}
 use Rattle.protocol.specs.declared.TransactionId.{TransactionId}
@@ -49,8 +49,8 @@ bare = record { has_status = false; status = 0; hash = record { bytes = replicat
 
 -- this is sent
 abbrev pub Sends : Outgoing → RegistrarAnswer → Type 0
-Sends o a = (a.sends ≡ true) × (a.outgoing ≡ o)
+Sends o a = a.outgoing ≡ Some o
 
 -- nothing is sent
 abbrev pub SendsNothing : RegistrarAnswer → Type 0
-SendsNothing a = (a.sends ≡ false) × (a.outgoing ≡ silent)
+SendsNothing a = a.outgoing ≡ None

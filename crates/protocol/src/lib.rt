@@ -235,24 +235,22 @@ pub enum Outcome {
 }
 
 // A registrar call's answer: how it ended, the reader's fault where the message does not read (else zeros), the slot it was
-// about (0 where it was refused), what is to be sent, and the next table.
+// about (0 where it was refused), what is to be sent, if anything, and the next table.
 #[derive(Clone, Copy)]
 pub struct RegistrarAnswer {
     pub outcome: Outcome,
     pub fault: ReadFault,
     pub slot: Slot,
-    pub sends: bool,
-    pub outgoing: Outgoing,
+    pub outgoing: Option<Outgoing>,
     pub table: TransactionTable,
 }
 
 // An end entity call's answer: how it ended, the reader's fault where the message does not read (else zeros), what is to be
-// sent, and the next enrolment.
+// sent, if anything, and the next enrolment.
 #[derive(Clone, Copy)]
 pub struct EndEntityAnswer {
     pub outcome: Outcome,
     pub fault: ReadFault,
-    pub sends: bool,
-    pub outgoing: Outgoing,
+    pub outgoing: Option<Outgoing>,
     pub enrolment: Enrolment,
 }

@@ -1,5 +1,5 @@
 -- The registrar's steps once more, over the slot and the plain values that the code hands on.
-use Rattle.std.specs.Prelude.{ℕ, List, Bool, true, false, cond, ◌≡◌, get_or, set, eqb, leb, ltb}
+use Rattle.std.specs.Prelude.{ℕ, List, Bool, true, false, cond, ◌≡◌, get_or, set, eqb, leb, ltb, Some, None}
 use Rattle.std.proofs.Math.Option
 use Rattle.std.proofs.Math.Option.{Option, none, some}
 use Rattle.grammar.specs.declared.Message.{Message}
@@ -49,14 +49,13 @@ refusal_answer k c t n i a =
       outcome = outcome.Refused k (bit_of k c);
       fault = no_fault;
       slot = record { 0 = 0 };
-      sends = leb 6 k;
-      outgoing = cond (leb 6 k) (error_out i n a (bit_of k c)) silent;
+      outgoing = cond (leb 6 k) (Some (error_out i n a (bit_of k c))) None;
       table = t;
     }
 
 -- "again": the same acknowledgement, and no change
 abbrev pub repeated : (p : ℕ) → TransactionTable → Outgoing → RegistrarAnswer
-repeated p t o = record { outcome = outcome.Again; fault = no_fault; slot = record { 0 = p }; sends = true; outgoing = o; table = t }
+repeated p t o = record { outcome = outcome.Again; fault = no_fault; slot = record { 0 = p }; outgoing = Some o; table = t }
 
 -- the transaction that a request opens
 abbrev pub asked_transaction : TransactionId → Board → (kind : ℕ) → (taken : Nonce) → Transaction
