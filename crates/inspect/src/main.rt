@@ -12,43 +12,25 @@ use message::Reading;
 use std::io;
 use std::io::Read;
 
-// What was read: `len` bytes, all there are or as many as there is room for, or not `ok`.
-#[derive(Clone, Copy)]
-struct Input {
-    len: usize,
-    ok: bool,
-}
+// The kind of a certConf in PKIBody.
+const CERT_CONF: u8 = 24;
 
-fn read_input(rt: &HostRuntime, buf: &mut [u8]) -> Input
-    ensures { (result.len ≤ length buf.new) × (result.len ≡ length (take result.len buf.new)) }
-{
+// All there is to read, or as much as there is room for.
+fn read_input<'a>(rt: &HostRuntime, buf: &'a mut [u8]) -> io::Result<&'a [u8]> {
     let mut stdin = rt.stdin();
     let mut done = 0;
     while done < buf.len() {
-        let more = match stdin.read(&mut buf[done..]) {
-            Ok(n) => n,
-            Err(_) => return Input { len: 0, ok: false },
-        };
+        let more = stdin.read(&mut buf[done..])?;
         if more == 0 {
             break;
         }
         done += more;
     }
-    Input {
-        len: done,
-        ok: true,
-    }
+    Ok(&buf[..done])
 }
 
 fn put_span(rt: &HostRuntime, word: &str, span: Span) -> io::Result<()> {
     println!(rt; "{word} {} {}", span.start.0, span.len)
-}
-
-fn put_hash(rt: &HostRuntime, m: Message) -> io::Result<()> {
-    if m.body.kind == 24 && m.body.entries == 1 {
-        return put_span(rt, "hash", m.body.entry.cert_hash);
-    }
-    Ok(())
 }
 
 fn put_message(rt: &HostRuntime, m: Message) -> io::Result<()> {
@@ -56,7 +38,10 @@ fn put_message(rt: &HostRuntime, m: Message) -> io::Result<()> {
     put_span(rt, "header", m.header_span)?;
     put_span(rt, "body", m.body_span)?;
     put_span(rt, "protection", m.protection)?;
-    put_hash(rt, m)
+    if m.body.kind == CERT_CONF && m.body.entries == 1 {
+        put_span(rt, "hash", m.body.entry.cert_hash)?;
+    }
+    Ok(())
 }
 
 fn put_reading(rt: &HostRuntime, reading: Reading) -> io::Result<()> {
@@ -70,14 +55,12 @@ fn put_reading(rt: &HostRuntime, reading: Reading) -> io::Result<()> {
 const ROOM: usize = message::MAX_MESSAGE + 1;
 
 fn main(rt: HostRuntime) {
-    let mut buffer = [0u8; ROOM];
-    let input = read_input(&rt, &mut buffer);
-    if !input.ok {
+    let mut buffer = [0; ROOM];
+    let Ok(input) = read_input(&rt, &mut buffer) else {
         let _ = eprintln!(rt; "inspect: cannot read standard input");
         return;
-    }
-    let reading = message::read(&buffer[..input.len]);
-    if put_reading(&rt, reading).is_err() {
+    };
+    if put_reading(&rt, message::read(input)).is_err() {
         let _ = eprintln!(rt; "inspect: cannot write standard output");
     }
 }

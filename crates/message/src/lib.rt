@@ -3,8 +3,7 @@
 
 ghost use Rattle.std.specs.Prelude.{◌≡◌};
 ghost use Rattle.grammar.specs.Span.{part_of};
-ghost use Rattle.der.specs.Types.{fault_by};
-ghost use Rattle.message.specs.Read.{bad_length, broken_at, lowest, reading_of, protected_length};
+ghost use Rattle.message.specs.Read.{broken_at, lowest, reading_of, protected_length};
 
 use der::Offset;
 use der::element::{Check, check_elements};
@@ -14,7 +13,16 @@ use grammar::{Message, part_of};
 // The longest message, in bytes.
 pub const MAX_MESSAGE: usize = 16384;
 
+// The numbers of the two refusals.
+const BAD_LENGTH: u8 = 1;
+
+const BROKEN: u8 = 2;
+
+// The rule of the grammar's faults; DER's are 1 to 4.
+const GRAMMAR_RULE: u8 = 5;
+
 // Refusal 1 or 2; of 2 the first fault's offset and the lowest rule broken there (1 to 4 are DER's, 5 the grammar's).
+// Numbers, not enums: the C header hands them on, and the definitions of specs/Read.antt name them.
 #[derive(Clone, Copy)]
 pub struct ReadFault {
     pub number: u8,
@@ -29,37 +37,23 @@ fn broken_at(at: Offset, rule: u8) -> Reading
     ensures { result ≡ broken_at at rule }
 {
     Err(ReadFault {
-        number: 2,
+        number: BROKEN,
         at,
         rule,
     })
 }
 
-fn lower(at: Offset, rule: u8, g: MessageRead) -> Reading
-    ensures { result ≡ lowest (fault_by at rule) g }
+// The lower of the two faults, if there is one; at one offset DER's comes before the grammar's.
+#[tactic(auto, unfolding(crate::specs::Read::lowest))]
+fn lowest_fault(check: Check, grammar: MessageRead) -> Reading
+    ensures { result ≡ lowest check grammar }
 {
-    let stop = g.at;
-    if g.met {
-        return broken_at(at, rule);
-    }
-    if stop.0 < at.0 {
-        return broken_at(stop, 5);
-    }
-    broken_at(at, rule)
-}
-
-fn lowest_fault(c: Check, g: MessageRead) -> Reading
-    ensures { result ≡ lowest c g }
-{
-    match c {
-        Err(fault) => lower(fault.at, fault.rule, g),
-        Ok(()) => {
-            if g.met {
-                let found = g.found;
-                return Ok(found);
-            }
-            broken_at(g.at, 5)
+    match check {
+        Ok(()) if grammar.met => Ok(grammar.found),
+        Err(fault) if grammar.met || fault.at.0 <= grammar.at.0 => {
+            broken_at(fault.at, fault.rule)
         }
+        _ => broken_at(grammar.at, GRAMMAR_RULE),
     }
 }
 
@@ -68,25 +62,14 @@ fn lowest_fault(c: Check, g: MessageRead) -> Reading
 pub fn read(message: &[u8]) -> Reading
     ensures { result ≡ reading_of message.now }
 {
-    let n = message.len();
-    if n == 0 {
-        return too_short_or_long();
+    if message.is_empty() || message.len() > MAX_MESSAGE {
+        return Err(ReadFault {
+            number: BAD_LENGTH,
+            at: Offset(0),
+            rule: 0,
+        });
     }
-    if MAX_MESSAGE < n {
-        return too_short_or_long();
-    }
-    let c = check_elements(message);
-    lowest_fault(c, read_message(message))
-}
-
-fn too_short_or_long() -> Reading
-    ensures { result ≡ bad_length }
-{
-    Err(ReadFault {
-        number: 1,
-        at: Offset(0),
-        rule: 0,
-    })
+    lowest_fault(check_elements(message), read_message(message))
 }
 
 // The header, the whole element.
@@ -114,22 +97,18 @@ pub fn protection_part(message: &[u8], found: Message) -> &[u8]
 pub fn certificate_part(message: &[u8], found: Message) -> &[u8]
     ensures { result.now ≡ part_of message.now found.body.entry.certificate }
 {
-    let body = found.body;
-    let entry = body.entry;
-    part_of(message, entry.certificate)
+    part_of(message, found.body.entry.certificate)
 }
 
 // How long the content of the protected part is: the DER SEQUENCE of header and body.
+#[tactic(auto, unfolding(crate::specs::Read::protected_length))]
 pub fn protected_length(found: Message) -> usize
     ensures { result ≡ protected_length found }
 {
-    let header = found.header_span;
-    let body = found.body_span;
-    if MAX_MESSAGE < header.len {
+    let header = found.header_span.len;
+    let body = found.body_span.len;
+    if header > MAX_MESSAGE || body > MAX_MESSAGE {
         return 0;
     }
-    if MAX_MESSAGE < body.len {
-        return 0;
-    }
-    header.len + body.len
+    header + body
 }

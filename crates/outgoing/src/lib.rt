@@ -27,45 +27,40 @@ fn blank() -> OutgoingContents
 fn with_status(contents: OutgoingContents, status: u32) -> OutgoingContents
     ensures { result ≡ with_status status contents }
 {
-    let mut more = contents;
-    more.has_status = true;
-    more.status = status;
-    more
+    OutgoingContents {
+        has_status: true,
+        status,
+        ..contents
+    }
 }
 
 fn with_hash(contents: OutgoingContents, hash: Hash) -> OutgoingContents
     ensures { result ≡ with_hash hash contents }
 {
-    let mut more = contents;
-    more.hash = hash;
-    more
+    OutgoingContents { hash, ..contents }
 }
 
-// An enum in a field is not stored to, so all is written anew.
 fn with_failure(contents: OutgoingContents, failure: FailureInfo) -> OutgoingContents
     ensures { result ≡ with_failure failure contents }
 {
-    let hash = contents.hash;
     OutgoingContents {
-        has_status: contents.has_status,
-        status: contents.status,
-        hash,
         failure,
-        has_number: contents.has_number,
-        number: contents.number,
+        ..contents
     }
 }
 
 fn with_number(contents: OutgoingContents, number: u32) -> OutgoingContents
     ensures { result ≡ with_number number contents }
 {
-    let mut more = contents;
-    more.has_number = true;
-    more.number = number;
-    more
+    OutgoingContents {
+        has_number: true,
+        number,
+        ..contents
+    }
 }
 
 // What stands in an answer that sends nothing.
+#[tactic(auto, unfolding(protocol::specs::Outgoing::silent))]
 pub fn silent() -> Outgoing
     ensures { result ≡ silent }
 {
@@ -80,17 +75,15 @@ pub fn silent() -> Outgoing
 }
 
 // ir, cr, p10cr or kur: it answers none.
+#[tactic(auto, unfolding(protocol::specs::Outgoing::silent))]
 pub fn request(request: u8, id: TransactionId, fresh: FreshNonce) -> Outgoing
     ensures { result ≡ request_out request id fresh }
 {
-    let answers = false;
     Outgoing {
         kind: request,
         id,
         sender_nonce: fresh.nonce(),
-        has_recip_nonce: answers,
-        recip_nonce: no_nonce(),
-        contents: blank(),
+        ..silent()
     }
 }
 

@@ -15,99 +15,53 @@ use protocol::{Hash, Nonce, TransactionId};
 pub fn is_present(span: Span) -> bool
     ensures { result ≡ is_present span }
 {
-    let start = span.start;
-    if start.0 == 0 {
-        return false;
-    }
-    true
-}
-
-// The one comparison of bytes: ids, nonces and hashes are the same where these are.
-#[tactic(auto, using(crate::proofs::Laws::other_length))]
-fn same_bytes(p: &[u8], q: &[u8]) -> bool
-    ensures { result ≡ same_bytes p.now q.now }
-{
-    let n = p.len();
-    if n != q.len() {
-        return false;
-    }
-    let mut i = 0;
-    while i < n {
-        if p[i] != q[i] {
-            return false;
-        }
-        i += 1;
-    }
-    true
-}
-
-// A copy of sixteen bytes; zeros where there are not exactly so many.
-fn sixteen(p: &[u8]) -> [u8; 16]
-    ensures { result ≡ sixteen_of p.now }
-{
-    let mut a = [0u8; 16];
-    if p.len() != 16 {
-        return a;
-    }
-    let mut i: usize = 0;
-    while i < 16 {
-        a[i] = p[i];
-        i += 1;
-    }
-    a
+    span.start.0 != 0
 }
 
 // Whether the part is absent, or has not exactly sixteen bytes.
 pub fn not_sixteen(message: &[u8], span: Span) -> bool
     ensures { result ≡ not_sixteen (optional_part message.now span) }
 {
-    if is_present(span) {
-        let p = part_of(message, span);
-        if p.len() == 16 {
-            return false;
-        }
-        return true;
-    }
-    true
+    !is_present(span) || part_of(message, span).len() != 16
 }
 
 // The one equality of ids.
+#[tactic(auto, using(crate::proofs::Laws::same_is))]
 pub fn same_id(a: TransactionId, b: TransactionId) -> bool
     ensures { result ≡ same_id a b }
 {
-    let own = a.bytes;
-    let other = b.bytes;
-    same_bytes(&own, &other)
+    a == b
 }
 
 // Whether the part is there and is this id.
+#[tactic(auto, using(crate::proofs::Laws::same_is))]
 pub fn is_id(message: &[u8], span: Span, id: TransactionId) -> bool
     ensures { result ≡ is_id (optional_part message.now span) id }
 {
-    if is_present(span) {
-        let bytes = id.bytes;
-        return same_bytes(part_of(message, span), &bytes);
-    }
-    false
+    is_present(span) && part_of(message, span) == id.bytes.as_slice()
 }
 
 // Whether the part is there and is this nonce.
+#[tactic(auto, using(crate::proofs::Laws::same_is))]
 pub fn is_nonce(message: &[u8], span: Span, nonce: Nonce) -> bool
     ensures { result ≡ is_nonce (optional_part message.now span) nonce }
 {
-    if is_present(span) {
-        let bytes = nonce.bytes;
-        return same_bytes(part_of(message, span), &bytes);
-    }
-    false
+    is_present(span) && part_of(message, span) == nonce.bytes.as_slice()
 }
 
 // Whether the part has the bytes of this hash.
+#[tactic(auto, using(crate::proofs::Laws::same_is))]
 pub fn is_hash(message: &[u8], span: Span, hash: Hash) -> bool
     ensures { result ≡ same_bytes (part_of message.now span) hash.bytes }
 {
-    let bytes = hash.bytes;
-    same_bytes(part_of(message, span), &bytes)
+    part_of(message, span) == hash.bytes.as_slice()
+}
+
+// A copy of sixteen bytes; zeros where there are not exactly so many.
+fn sixteen(p: &[u8]) -> [u8; 16]
+    ensures { result ≡ sixteen_of p.now }
+{
+    p.try_into().unwrap_or([0; 16])
 }
 
 // The part as an id; zeros where it has not sixteen bytes.

@@ -1,11 +1,25 @@
-// The kinds of message: which enrol, open and start, and how they pair.
+// The kinds of message: which enrol, open and start, and how they pair. A kind stays a u8 and is no enum: C and lent tables
+// hand in any byte as a kind.
 ghost use Rattle.std.specs.Prelude.{◌≡◌};
 ghost use Rattle.protocol.specs.Message.{is_enrolment_kind, is_response, is_opening_kind, is_starting_kind, response_to, request_number};
 
-// The request that carries no certReqId.
+// The kinds by their numbers in PKIBody (RFC 9810 5.1.2): the requests and the responses,
+pub const IR: u8 = 0;
+
+pub const IP: u8 = 1;
+
+pub const CR: u8 = 2;
+
+pub const CP: u8 = 3;
+
+// the request that carries no certReqId,
 pub const P10CR: u8 = 4;
 
-// The kinds that are no request and no response.
+pub const KUR: u8 = 7;
+
+pub const KUP: u8 = 8;
+
+// and the kinds that are neither.
 pub const PKI_CONF: u8 = 19;
 
 pub const ERROR: u8 = 23;
@@ -13,35 +27,19 @@ pub const ERROR: u8 = 23;
 pub const CERT_CONF: u8 = 24;
 
 // What is given for a kind that no pair names.
-const UNPAIRED: u8 = 3;
+const UNPAIRED: u8 = CP;
 
-// The requests that enrol: ir, cr, p10cr, kur.
+// The requests that enrol.
 pub fn is_enrolment_kind(kind: u8) -> bool
     ensures { result ≡ is_enrolment_kind kind }
 {
-    if kind == 0 {
-        return true;
-    }
-    if kind == 2 {
-        return true;
-    }
-    if kind == 4 {
-        return true;
-    }
-    kind == 7
+    matches!(kind, IR | CR | P10CR | KUR)
 }
 
-// The responses: ip, cp, kup.
 pub fn is_response(kind: u8) -> bool
     ensures { result ≡ is_response kind }
 {
-    if kind == 1 {
-        return true;
-    }
-    if kind == 3 {
-        return true;
-    }
-    kind == 8
+    matches!(kind, IP | CP | KUP)
 }
 
 // What opens a transaction at the registrar.
@@ -62,23 +60,16 @@ pub fn is_starting_kind(request: u8) -> bool
 pub fn response_to(request: u8) -> u8
     ensures { result ≡ response_to request }
 {
-    if request == 0 {
-        return 1;
+    match request {
+        IR => IP,
+        CR | P10CR => CP,
+        KUR => KUP,
+        _ => UNPAIRED,
     }
-    if request == 2 {
-        return 3;
-    }
-    if request == 4 {
-        return 3;
-    }
-    if request == 7 {
-        return 8;
-    }
-    UNPAIRED
 }
 
 // -1 in four bytes, two's complement.
-const MINUS_ONE: u32 = 4294967295;
+const MINUS_ONE: u32 = u32::MAX;
 
 // The certReqId of a transaction of this kind.
 pub fn request_number(kind: u8) -> u32

@@ -11,33 +11,33 @@ use message::ReadFault;
 pub mod kinds;
 
 // A board's number.
-#[derive(Clone, Copy)]
+#[derive(Clone, Copy, Debug, PartialEq, Eq)]
 pub struct Board(pub u16);
 
 // A place in the transaction table (01's record place).
-#[derive(Clone, Copy)]
+#[derive(Clone, Copy, Debug, PartialEq, Eq)]
 pub struct Slot(pub usize);
 
 // The bytes of a transactionID.
-#[derive(Clone, Copy)]
+#[derive(Clone, Copy, Debug, PartialEq, Eq)]
 pub struct TransactionId {
     pub bytes: [u8; TransactionTable::ID_BYTES],
 }
 
 // A senderNonce or a recipNonce, of a message that came or of one to be sent.
-#[derive(Clone, Copy)]
+#[derive(Clone, Copy, Debug, PartialEq, Eq)]
 pub struct Nonce {
     pub bytes: [u8; 16],
 }
 
 // The 16 bytes that the host draws for a nonce of our own.
-#[derive(Clone, Copy)]
+#[derive(Clone, Copy, Debug, PartialEq, Eq)]
 pub struct FreshNonce {
     pub bytes: [u8; 16],
 }
 
 // The hash of a certificate, as the host works it out.
-#[derive(Clone, Copy)]
+#[derive(Clone, Copy, Debug, PartialEq, Eq)]
 pub struct Hash {
     pub bytes: [u8; 32],
 }
@@ -70,6 +70,7 @@ impl FreshNonce {
     pub fn nonce(self) -> Nonce
         ensures { result ≡ nonce_from self }
     {
+        // By a variable: the check takes no array straight from a field into a literal.
         let bytes = self.bytes;
         Nonce { bytes }
     }
@@ -96,7 +97,7 @@ pub struct EndEntityInput {
 }
 
 // The registrar's states of a transaction, under 01's names. Free: the slot holds none.
-#[derive(Clone, Copy)]
+#[derive(Clone, Copy, Debug, PartialEq, Eq)]
 pub enum TransactionState {
     Free,
     Asked,
@@ -151,18 +152,18 @@ impl TransactionTable {
     pub const MESSAGE_BYTES: usize = message::MAX_MESSAGE;
 
     // The table with every slot free.
+    #[tactic(auto, unfolding(crate::specs::Table::empty_table))]
     pub fn empty() -> TransactionTable
         ensures { result ≡ empty_table }
     {
-        let free = Transaction::free();
         TransactionTable {
-            transactions: [free; TransactionTable::CAPACITY],
+            transactions: [Transaction::free(); TransactionTable::CAPACITY],
         }
     }
 }
 
 // An end entity's states of an enrolment, under 01's names.
-#[derive(Clone, Copy)]
+#[derive(Clone, Copy, Debug, PartialEq, Eq)]
 pub enum EnrolmentState {
     Asked,
     Confirming,
@@ -205,6 +206,7 @@ impl Enrolment {
 pub type FailureInfo = Option<u8>;
 
 // What only some kinds carry: a status and a certReqId where their flags say so, a hash in a certConf, a bit in an error.
+// Flags, not Options: the definitions of specs/Outgoing.antt name these fields.
 #[derive(Clone, Copy)]
 pub struct OutgoingContents {
     pub has_status: bool,
@@ -216,6 +218,7 @@ pub struct OutgoingContents {
 }
 
 // A message to be sent (01's order). The recipNonce is there where its flag says so.
+// A flag, not an Option: the definitions of specs/Outgoing.antt name these fields.
 #[derive(Clone, Copy)]
 pub struct Outgoing {
     pub kind: u8,
@@ -227,7 +230,7 @@ pub struct Outgoing {
 }
 
 // How a call ended: done; the same answer given again, with no change; or refused, with its number and bit.
-#[derive(Clone, Copy)]
+#[derive(Clone, Copy, Debug, PartialEq, Eq)]
 pub enum Outcome {
     Done,
     Again,
