@@ -1,23 +1,20 @@
 -- Laws of the cursor's verbs: where an element ends, and how far a cursor moves on.
-use Prim.Native.Nat.{ℕ, zero, suc, ◌+◌, ◌-◌, ◌*◌, ◌/◌, ◌%◌, ◌<◌, ◌≤◌}
-use mathlib.Core.Path.{◌≡◌, refl, sym, ◌∙◌, ap}
+use Prim.Native.Nat.{ℕ, zero, suc, ◌+◌, ◌-◌, ◌<◌, ◌≤◌}
+use mathlib.Core.Path.{◌≡◌, refl, sym, ◌∙◌}
 use mathlib.Core.List.{List}
-use mathlib.Core.Bool.{Bool, true, false, cond, ◌||◌, true≢false}
-use native.Mathlib.Nat.{le_refl, add-zero}
+use mathlib.Core.Bool.{true, false, ◌||◌, true≢false}
+use native.Mathlib.Nat.{le_refl}
 use native.Mathlib.Omega.{arith}
-use borrow.Author.Tests.{ltb-true, ltb-false, leb-false, eq-eqb, ne_eqb}
-use lib.ListN.{length, get_or, take, drop}
-use lib.Seq.{get_or-take, get_or-drop}
+use borrow.Author.Tests.{ltb-true, ltb-false, leb-false}
+use lib.ListN.{length, take, drop}
 use lib.Dec.{ltb, leb, eqb}
 use Rattle.der.specs.Head.{head_of}
-use Rattle.der.specs.Code.{packed_of}
 use Rattle.der.specs.declared.head.Head.{Head}
 use Rattle.der.specs.declared.head.Head.TheVariants.{Bad, Whole}
 use Rattle.der.proofs.Auto.{and_left, and_right, or_false_left, or_false_right}
-use Rattle.der.proofs.HeadLaws.{cond_both, span_in_lem, whole_in, whole-tag, unpacked}
+use Rattle.der.proofs.HeadLaws.{cond_both, span_in_lem}
 use Rattle.grammar.specs.declared.cursor.Cursor.{Cursor}
-use Rattle.grammar.specs.Code.{packed_if, tagged_of}
-use Rattle.grammar.specs.Cursor.{is_ok, head_in, fault_at, past_of, if_tag, need_of, leave_of, more_at, left_at, repeat}
+use Rattle.grammar.specs.Cursor.{is_ok, head_in, if_tag, need_of, leave_of, more_at, left_at, repeat}
 
 -- a whole element that stands between two offsets ends inside, and the second lies inside the message
 module _ (m : List ℕ) (at end : ℕ) {tag start len : ℕ} (whole : head_in m at end ≡ Whole tag start len) where
@@ -32,58 +29,6 @@ module _ (m : List ℕ) (at end : ℕ) {tag start len : ℕ} (whole : head_in m 
 
   pub head_in_parent : (2 ≤ start) × (at + start + len ≤ end) × (end ≤ length m)
   head_in_parent = let s = stands in let w = span_in_lem m at end (omega arith) refl s.2 in (w.0, w.1, s.1)
-
-  -- its tag is the byte at the first offset
-  pub head-tag : tag ≡ get_or m at 0
-  head-tag =
-      let s = stands in
-      whole-tag _ s.2 ∙ get_or-take (end - at) (drop at m) 0 0 (omega arith) ∙ get_or-drop at m 0 0 ∙ ap (λ (k : ℕ). get_or m k 0) (add-zero at)
-
--- another byte there: no element with the tag asked
-pub tagged_other : (m : List ℕ) (at end tag : ℕ) → (get_or m at 0 ≡ tag → ⊥) → tagged_of m at end tag ≡ 0
-unfolding tagged_of
-tagged_other m at end tag n = go (head_in m at end) refl
-  where
-    go : (h : Head) → head_in m at end ≡ h → packed_if tag h ≡ 0
-    go (Bad rule) q = refl
-    go (Whole t start len) q = simp (ne_eqb t tag (λ e. n (sym (head-tag m at end q) ∙ e)))
-
--- that byte there: the head as it is packed
-pub tagged-same : (m : List ℕ) (at end tag : ℕ) → get_or m at 0 ≡ tag → tagged_of m at end tag ≡ packed_of (head_in m at end)
-unfolding tagged_of
-tagged-same m at end tag e = go (head_in m at end) refl
-  where
-    go : (h : Head) → head_in m at end ≡ h → packed_if tag h ≡ packed_of h
-    go (Bad rule) q = refl
-    go (Whole t start len) q = simp (eq-eqb t tag (head-tag m at end q ∙ e))
-
--- what the number says: 0 that what comes next is at fault, any other where the content of what comes next is
-module _ (m : List ℕ) (tag : ℕ) (c : Cursor) {p : ℕ} (packs : p ≡ tagged_of m c.at c.end tag) where
-  pub need_bad : p ≡ 0 → if_tag tag c (head_in m c.at c.end) ≡ fault_at c
-  unfolding tagged_of
-  need_bad z = go (head_in m c.at c.end) refl
-    where
-      go : (h : Head) → head_in m c.at c.end ≡ h → if_tag tag c h ≡ fault_at c
-      go (Bad rule) q = refl
-      go (Whole t start len) q =
-          cond_both (λ (r : Cursor). r ≡ fault_at c) (eqb t tag)
-          (λ e. absurd (omega (arith, head_in_parent m c.at c.end q, sym z ∙ packs ∙ ap (packed_if tag) q ∙ ap (λ (b : Bool). cond b (len * 8 + start) 0) e)))
-          (λ e. refl)
-
-  pub need_whole : (p ≡ 0 → ⊥) → (if_tag tag c (head_in m c.at c.end) ≡ past_of c (p % 8) (p / 8)) × (c.at + p % 8 + p / 8 ≤ c.end)
-  unfolding tagged_of
-  need_whole n = go (head_in m c.at c.end) refl
-    where
-      go : (h : Head) → head_in m c.at c.end ≡ h → (if_tag tag c h ≡ past_of c (p % 8) (p / 8)) × (c.at + p % 8 + p / 8 ≤ c.end)
-      go (Bad rule) q = absurd (n (packs ∙ ap (packed_if tag) q))
-      go (Whole t start len) q =
-          cond_both (λ (r : Cursor). (r ≡ past_of c (p % 8) (p / 8)) × (c.at + p % 8 + p / 8 ≤ c.end)) (eqb t tag)
-          (λ e.
-          let w = head_in_parent m c.at c.end q in
-          let s = whole_in _ refl (stands m c.at c.end q).2 in
-          let u = unpacked start len (omega arith) (packs ∙ ap (packed_if tag) q ∙ ap (λ (b : Bool). cond b (len * 8 + start) 0) e) in
-          (rw (u.0, u.1) refl, rw (u.0, u.1) w.1))
-          (λ e. absurd (n (packs ∙ ap (packed_if tag) q ∙ ap (λ (b : Bool). cond b (len * 8 + start) 0) e)))
 
 -- ## A step forward
 

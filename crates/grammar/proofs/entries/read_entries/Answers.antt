@@ -1,18 +1,13 @@
 use Prim.Native.Nat.{◌<◌}
 use mathlib.Core.Path.{◌∙◌, sym, subst}
-use native.Mathlib.Omega.{arith}
 use lib.Dec.{ltb}
-use Rattle.der.proofs.Auto.{tests, told, and_left}
+use Rattle.der.proofs.Auto.{told, and_left}
 use Rattle.grammar.specs.declared.entries.Entries.{Entries}
 use Rattle.grammar.specs.Cursor.{left_at, more_at}
 use Rattle.grammar.specs.Entries.{next, entries_of}
-use Rattle.grammar.proofs.CursorLaws.{Left, left-start, left_end, left_less, left-more}
+use Rattle.grammar.proofs.CursorLaws.{Left, left_end, left_less, left-more}
 use Rattle.grammar.proofs.EntryLaws.{moved-next, Counted, counted_next, room}
 use Rattle.grammar.proofs.entries.read_entries.Goals as goal
-
-pub loop-what-init : goal.loop-what-init
-loop-what-init c =
-    (left-start (λ (x : Entries). x.cur) _ (moved-next _ _) c.no_entries-e.result, subst Counted (sym c.no_entries-e.ensures) (λ k. (omega arith, search tests)))
 
 pub next_entry-e-requires : goal.next_entry-e-requires
 next_entry-e-requires c = let l = c.loop-what in room l.e l.invariant.1 (told c.more.ensures c.loop-what-test.true)
