@@ -1,20 +1,21 @@
 -- Laws of the cursor's verbs: where an element ends, and how far a cursor moves on.
 use Prim.Native.Nat.{ℕ, zero, suc, ◌+◌, ◌-◌, ◌<◌, ◌≤◌}
-use mathlib.Core.Path.{◌≡◌, refl, sym, ◌∙◌}
+use mathlib.Core.Path.{◌≡◌, refl, sym, ◌∙◌, ap}
 use mathlib.Core.List.{List}
 use mathlib.Core.Bool.{true, false, ◌||◌, true≢false}
-use native.Mathlib.Nat.{le_refl}
+use native.Mathlib.Nat.{le_refl, add-zero}
 use native.Mathlib.Omega.{arith}
-use borrow.Author.Tests.{ltb-true, ltb-false, leb-false}
-use lib.ListN.{length, take, drop}
+use borrow.Author.Tests.{ltb-true, ltb-false, leb-false, lt-ltb, le-leb, ne_eqb}
+use lib.ListN.{length, get_or, take, drop}
+use lib.Seq.{get_or-take, get_or-drop}
 use lib.Dec.{ltb, leb, eqb}
 use Rattle.der.specs.Head.{head_of}
 use Rattle.der.specs.declared.head.Head.{Head}
 use Rattle.der.specs.declared.head.Head.TheVariants.{Bad, Whole}
 use Rattle.der.proofs.Auto.{and_left, and_right, or_false_left, or_false_right}
-use Rattle.der.proofs.HeadLaws.{cond_both, span_in_lem}
+use Rattle.der.proofs.HeadLaws.{cond_both, span_in_lem, whole-tag}
 use Rattle.grammar.specs.declared.cursor.Cursor.{Cursor}
-use Rattle.grammar.specs.Cursor.{is_ok, head_in, if_tag, need_of, leave_of, more_at, left_at, repeat}
+use Rattle.grammar.specs.Cursor.{is_ok, head_in, tag_at, fault_at, if_tag, need_of, leave_of, more_at, left_at, repeat}
 
 -- a whole element that stands between two offsets ends inside, and the second lies inside the message
 module _ (m : List ℕ) (at end : ℕ) {tag start len : ℕ} (whole : head_in m at end ≡ Whole tag start len) where
@@ -29,6 +30,25 @@ module _ (m : List ℕ) (at end : ℕ) {tag start len : ℕ} (whole : head_in m 
 
   pub head_in_parent : (2 ≤ start) × (at + start + len ≤ end) × (end ≤ length m)
   head_in_parent = let s = stands in let w = span_in_lem m at end (omega arith) refl s.2 in (w.0, w.1, s.1)
+
+  -- its tag is the byte at the first offset
+  head-tag : tag ≡ get_or m at 0
+  head-tag =
+      let s = stands in
+      whole-tag _ s.2 ∙ get_or-take (end - at) (drop at m) 0 0 (omega arith) ∙ get_or-drop at m 0 0 ∙ ap (λ (k : ℕ). get_or m k 0) (add-zero at)
+
+-- the tag of what comes next is the byte there
+pub next_tag : (m : List ℕ) (c : Cursor) {tag start len : ℕ} → head_in m c.at c.end ≡ Whole tag start len → tag_at m c ≡ tag
+unfolding tag_at
+next_tag m c whole = let s = stands m c.at c.end whole in simp (lt-ltb c.at c.end s.0, le-leb c.end (length m) s.1) (sym (head-tag m c.at c.end whole))
+
+-- another byte there: no element with the tag asked
+pub other_tag : (m : List ℕ) (tag : ℕ) (c : Cursor) → (tag_at m c ≡ tag → ⊥) → if_tag tag c (head_in m c.at c.end) ≡ fault_at c
+other_tag m tag c other = go (head_in m c.at c.end) refl
+  where
+    go : (h : Head) → head_in m c.at c.end ≡ h → if_tag tag c h ≡ fault_at c
+    go (Bad rule) q = refl
+    go (Whole t start len) q = simp (ne_eqb t tag (λ e. other (next_tag m c q ∙ e)))
 
 -- ## A step forward
 

@@ -63,16 +63,20 @@ fn head_in(m: &[u8], at: usize, end: usize) -> Head
 }
 
 // An element with this tag comes next.
-#[tactic(auto, unfolding(crate::specs::Cursor::need_of), using(crate::proofs::CursorLaws::head_in_parent))]
+#[tactic(auto, unfolding(crate::specs::Cursor::need_of), using(crate::proofs::CursorLaws::head_in_parent, crate::proofs::CursorLaws::next_tag, crate::proofs::CursorLaws::other_tag))]
 pub(crate) fn need(m: &[u8], c: Cursor, tag: u8) -> Cursor
     ensures { result ≡ need_of m.now tag c }
 {
     if c.rule != 0 {
         return c;
     }
+    // the tag first, which is quicker
+    if tag_at(m, c) != tag {
+        return fault_at(c);
+    }
     match head_in(m, c.at, c.end) {
-        Head::Whole { tag: t, start, len } if t == tag => past(c, start, len),
-        _ => fault_at(c),
+        Head::Whole { start, len, .. } => past(c, start, len),
+        Head::Bad(_) => fault_at(c),
     }
 }
 

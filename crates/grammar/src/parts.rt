@@ -1,7 +1,7 @@
 // Grammar rules that several parts of a message share.
 ghost use Rattle.std.specs.Prelude.{◌≡◌, ◌&&◌, ◌+◌, ◌≤◌, eqb, IfSome};
 ghost use Rattle.der.specs.Head.{tag_ok};
-ghost use Rattle.grammar.specs.Code.{past_field, around_of};
+ghost use Rattle.grammar.specs.Code.{past_field, Computes, around_of};
 ghost use Rattle.grammar.specs.Cursor.{need_of, done_of, enter_of, leave_of};
 ghost use Rattle.grammar.specs.Span.{span_from};
 ghost use Rattle.grammar.specs.Parts.{found_span, whole_span, outer_span, found_of, typed_of, one_of, all_by, sequence_of, optional_field, field_of, typed_field, any_field, sequence_field, maybe_text, last_bit_set, fail_info_of, status_of, maybe_status};
@@ -83,7 +83,7 @@ pub(crate) fn found(outer: Cursor, inner: Cursor) -> Cursor
 // An element with this tag, which holds what `inside` reads and nothing after it.
 pub(crate) fn around<F: FnOnce(Cursor) -> Cursor>(m: &[u8], c: Cursor, tag: u8, inside: F) -> Cursor
     requires { F.IsAlwaysCallable inside }
-    ensures { (f : Cursor → Cursor) → ((k r : Cursor) → F.post inside k r → r ≡ f k) → result ≡ around_of m.now tag f c }
+    ensures { (f : Cursor → Cursor) → Computes (F.post inside) f → result ≡ around_of m.now tag f c }
 {
     let o = need(m, c, tag);
     leave(o, done(inside(enter(o))))
@@ -92,7 +92,7 @@ pub(crate) fn around<F: FnOnce(Cursor) -> Cursor>(m: &[u8], c: Cursor, tag: u8, 
 // The same where the tag comes next, and nothing otherwise.
 fn optional<F: FnOnce(Cursor) -> Cursor>(m: &[u8], c: Cursor, tag: u8, inside: F) -> Cursor
     requires { F.IsAlwaysCallable inside }
-    ensures { (f : Cursor → Cursor) → ((k r : Cursor) → F.post inside k r → r ≡ f k) → result ≡ optional_field leave_of m.now tag f c }
+    ensures { (f : Cursor → Cursor) → Computes (F.post inside) f → result ≡ optional_field leave_of m.now tag f c }
 {
     if tag_at(m, c) == tag {
         around(m, c, tag, inside)
@@ -111,6 +111,8 @@ pub(crate) fn typed(m: &[u8], c: Cursor) -> Cursor
     leave(s, done(rest(m, o)))
 }
 
+// One element of it. Inlined, so that which it is to be is asked outside the loop.
+#[inline(always)]
 #[tactic(auto, unfolding(crate::specs::Parts::one_of))]
 fn one(m: &[u8], c: Cursor, what: Each) -> Cursor
     ensures { result ≡ one_of m.now what c }
@@ -122,7 +124,7 @@ fn one(m: &[u8], c: Cursor, what: Each) -> Cursor
     }
 }
 
-// One after another up to the parent's end.
+// Such elements, one after another up to the parent's end.
 fn all(m: &[u8], c: Cursor, what: Each) -> Cursor
     ensures { result ≡ all_by (one_of m.now what) c }
 {
