@@ -2,7 +2,7 @@
 use Prim.Native.Nat.{ℕ, zero, suc, ◌+◌, ◌-◌, ◌<◌, ◌≤◌}
 use mathlib.Core.Path.{◌≡◌, refl, sym, ◌∙◌, ap}
 use mathlib.Core.List.{List}
-use mathlib.Core.Bool.{true, false, ◌||◌, true≢false}
+use mathlib.Core.Bool.{Bool, true, false, cond, ◌||◌, true≢false}
 use native.Mathlib.Nat.{le_refl, add-zero}
 use native.Mathlib.Omega.{arith}
 use borrow.Author.Tests.{ltb-true, ltb-false, leb-false, lt-ltb, le-leb, ne_eqb}
@@ -79,21 +79,6 @@ moved_leave {c} i h = cond_both (Moved c) (is_ok i) (λ q. h) (λ q. record { en
 -- ## A loop over elements, for any state that has a cursor and any step that moves it
 
 module _ {S : Type 0} (cur : S → Cursor) (step : S → S) (moves : (s : S) → Moved (cur s) (cur (step s))) where
-  -- what is left to do from s on, with enough turns
-  abbrev pub Left : S → S → Type 0
-  Left s₀ s = (n : ℕ) × (left_at (cur s) ≤ n) × (repeat cur step (left_at (cur s₀)) s₀ ≡ repeat cur step n s)
-
-  pub left-start : (s : S) → Left s s
-  left-start s = (left_at (cur s), le_refl _, refl)
-
-  pub left_end : (s₀ s : S) → Left s₀ s → more_at (cur s) ≡ false → s ≡ repeat cur step (left_at (cur s₀)) s₀
-  unfolding repeat
-  left_end s₀ s h e = sym (h.2 ∙ stop h.0)
-    where
-      stop : (n : ℕ) → repeat cur step n s ≡ s
-      stop zero = refl
-      stop (suc n) = rw e
-
   pub left_less : (s : S) → more_at (cur s) ≡ true → left_at (cur (step s)) < left_at (cur s)
   unfolding more_at
   left_less s e =
@@ -104,13 +89,30 @@ module _ {S : Type 0} (cur : S → Cursor) (step : S → S) (moves : (s : S) →
       (λ q. omega (arith, (moves s).end q, (moves s).on q))
       (λ q. omega arith))
 
-  pub left-more : (s₀ s : S) → Left s₀ s → more_at (cur s) ≡ true → Left s₀ (step s)
+  -- turns past the last element change nothing
+  enough : (n k : ℕ) (s : S) → left_at (cur s) ≤ n → left_at (cur s) ≤ k → repeat cur step n s ≡ repeat cur step k s
   unfolding repeat
-  left-more s₀ s h e = go h.0 h.1 h.2
+  enough zero zero s a b = refl
+  enough zero (suc k) s a b = cond_both (λ (r : S). s ≡ r) (more_at (cur s)) (λ e. absurd (omega (arith, left_less s e))) (λ e. refl)
+  enough (suc n) zero s a b = cond_both (λ (r : S). r ≡ s) (more_at (cur s)) (λ e. absurd (omega (arith, left_less s e))) (λ e. refl)
+  enough (suc n) (suc k) s a b = go (more_at (cur s)) refl (λ e. enough n k (step s) (omega (arith, left_less s e)) (omega (arith, left_less s e)))
     where
-      less : left_at (cur (step s)) < left_at (cur s)
-      less = left_less s e
+      go : (t : Bool) → more_at (cur s) ≡ t → (more_at (cur s) ≡ true → repeat cur step n (step s) ≡ repeat cur step k (step s)) → cond t (repeat cur step n (step s)) s ≡ cond t (repeat cur step k (step s)) s
+      go true e same = same e
+      go false e same = refl
 
-      go : (n : ℕ) → left_at (cur s) ≤ n → repeat cur step (left_at (cur s₀)) s₀ ≡ repeat cur step n s → Left s₀ (step s)
-      go zero k q = absurd (omega (arith, less))
-      go (suc n) k q = (n, omega (arith, less), q ∙ rw e)
+  -- what is to come from s on: from the next one on, or nothing
+  pub rest_more : (s : S) → more_at (cur s) ≡ true → repeat cur step (left_at (cur s)) s ≡ repeat cur step (left_at (cur (step s))) (step s)
+  unfolding repeat
+  rest_more s e =
+      let less = left_less s e in
+      enough (left_at (cur s)) (suc (left_at (cur s))) s (le_refl _) (omega arith)
+      ∙ rw e (enough (left_at (cur s)) (left_at (cur (step s))) (step s) (omega arith) (le_refl _))
+
+  pub rest_done : (s : S) → more_at (cur s) ≡ false → repeat cur step (left_at (cur s)) s ≡ s
+  unfolding repeat
+  rest_done s e = stop (left_at (cur s))
+    where
+      stop : (n : ℕ) → repeat cur step n s ≡ s
+      stop zero = refl
+      stop (suc n) = rw e

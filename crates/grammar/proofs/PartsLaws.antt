@@ -1,7 +1,7 @@
 -- Laws of the shared grammar rules: each member of a SEQUENCE OF moves the cursor on, and a field with short lengths ends where they say.
 use Prim.Native.Nat.{ℕ, ◌+◌, ◌-◌, ◌<◌, ◌≤◌}
 use mathlib.Core.Path.{◌≡◌, refl, sym, ◌∙◌, ap}
-use mathlib.Core.Bool.{true, ◌&&◌}
+use mathlib.Core.Bool.{true, false, ◌&&◌}
 use mathlib.Core.List.{List}
 use native.Mathlib.Nat.{add-zero, add_assoc}
 use native.Mathlib.Omega.{arith}
@@ -17,9 +17,9 @@ use Rattle.grammar.specs.declared.cursor.Cursor.{Cursor}
 use Rattle.grammar.specs.declared.parts.Each.{Each}
 use Rattle.grammar.specs.declared.parts.Each.TheVariants.{Text, Certificate, Info}
 use Rattle.grammar.specs.Code.{past_field}
-use Rattle.grammar.specs.Cursor.{head_in, tag_at, past_of, need_of, done_of, enter_of}
-use Rattle.grammar.specs.Parts.{typed_of, one_of, found_of, field_of}
-use Rattle.grammar.proofs.CursorLaws.{Moved, moved_need, moved_leave}
+use Rattle.grammar.specs.Cursor.{head_in, tag_at, past_of, need_of, done_of, enter_of, more_at, left_at}
+use Rattle.grammar.specs.Parts.{typed_of, one_of, all_by, found_of, field_of}
+use Rattle.grammar.proofs.CursorLaws.{Moved, moved_need, moved_leave, left_less, rest_more, rest_done}
 
 pub moved_typed : (m : List ℕ) (c : Cursor) → Moved c (typed_of m c)
 unfolding typed_of
@@ -30,6 +30,19 @@ unfolding one_of
 moved-one m Text c = moved_need m 0x0C c
 moved-one m Certificate c = moved_need m 0x30 c
 moved-one m Info c = moved_typed m c
+
+-- the elements of a SEQUENCE OF that are to come: the next one and those after it, or none
+module _ (m : List ℕ) (what : Each) (c : Cursor) where
+  pub all_more : more_at c ≡ true → all_by (one_of m what) c ≡ all_by (one_of m what) (one_of m what c)
+  unfolding all_by
+  all_more e = rest_more (λ (k : Cursor). k) (one_of m what) (moved-one m what) c e
+
+  pub all_done : more_at c ≡ false → all_by (one_of m what) c ≡ c
+  unfolding all_by
+  all_done e = rest_done (λ (k : Cursor). k) (one_of m what) (moved-one m what) c e
+
+  pub all_less : more_at c ≡ true → left_at (one_of m what c) < left_at c
+  all_less e = left_less (λ (k : Cursor). k) (one_of m what) (moved-one m what) c e
 
 -- ## A short length
 

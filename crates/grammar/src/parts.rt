@@ -125,6 +125,7 @@ fn one(m: &[u8], c: Cursor, what: Each) -> Cursor
 }
 
 // Such elements, one after another up to the parent's end.
+#[tactic(auto, using(crate::proofs::PartsLaws::all_more, crate::proofs::PartsLaws::all_done, crate::proofs::PartsLaws::all_less))]
 fn all(m: &[u8], c: Cursor, what: Each) -> Cursor
     ensures { result ≡ all_by (one_of m.now what) c }
 {

@@ -1,6 +1,6 @@
 // PKIBody.
 ghost use Rattle.std.specs.Prelude.{◌≡◌};
-ghost use Rattle.grammar.specs.Body.{plain, from_entries, at_least_one, requests_of, responses_of, confirmations_of, error_of, other_of, p10cr_of, contents_of, body_tag, body_of};
+ghost use Rattle.grammar.specs.Body.{plain, from_entries, at_least_one, requests_of, responses_of, confirmations_of, error_of, p10cr_of, contents_of, body_tag, body_of};
 
 use crate::cursor::{Cursor, any, done, enter, fault_at, leave, maybe, need, tag_at};
 use crate::entries::{Entries, EntryKind, no_entry, only, read_entries};
@@ -121,28 +121,19 @@ fn p10cr(m: &[u8], c: Cursor) -> Contents
     }
 }
 
-// pkiconf, p10cr, and the kinds that are generic here.
-#[tactic(auto, unfolding(crate::specs::Body::other_of))]
-fn other(m: &[u8], c: Cursor, kind: u8) -> Contents
-    ensures { result ≡ other_of m.now kind c }
-{
-    match kind {
-        4 => p10cr(m, c),
-        19 => plain_contents(need(m, c, 0x05)),
-        _ => plain_contents(any(m, c)),
-    }
-}
-
-#[tactic(auto, unfolding(crate::specs::Body::contents_of))]
+// What a body of this kind holds; the kinds that are not named are generic here.
+#[tactic(auto, unfolding(crate::specs::Body::contents_of, crate::specs::Body::other_of))]
 fn contents_of(m: &[u8], c: Cursor, kind: u8) -> Contents
     ensures { result ≡ contents_of m.now kind c }
 {
     match kind {
         0 | 2 | 7 => requests(m, c),
         1 | 3 | 8 => responses(m, c),
+        4 => p10cr(m, c),
+        19 => plain_contents(need(m, c, 0x05)),
         23 => error(m, c),
         24 => confirmations(m, c),
-        _ => other(m, c, kind),
+        _ => plain_contents(any(m, c)),
     }
 }
 
