@@ -50,6 +50,8 @@ other_tag m tag c other = go (head_in m c.at c.end) refl
     go (Bad rule) q = refl
     go (Whole t start len) q = simp (ne_eqb t tag (λ e. other (next_tag m c q ∙ e)))
 
+pub ruleset heads = (head_in_parent, next_tag, other_tag)
+
 -- ## A step forward
 
 -- from c to r the cursor went on under the same end, if all is right

@@ -64,3 +64,5 @@ pub one_more : (m : List ℕ) (what : EntryKind) (e : Entries) {r all : Entries}
 unfolding more_at
 one_more m what e h t q =
     rw q (sym (entries_more m what e t) ∙ h.0, counted_next m what e h.1 (and_left (is_ok e.cur) (ltb e.cur.at e.cur.end) t))
+
+pub ruleset entry_by_entry = (entries_all, entries_done, entries_less, room)

@@ -44,6 +44,8 @@ module _ (m : List ℕ) (what : Each) (c : Cursor) where
   pub all_less : more_at c ≡ true → left_at (one_of m what c) < left_at c
   all_less e = left_less (λ (k : Cursor). k) (one_of m what) (moved-one m what) c e
 
+pub ruleset one_by_one = (all_more, all_done, all_less)
+
 -- ## A short length
 
 -- an element with the tag asked and a short length comes next

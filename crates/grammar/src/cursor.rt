@@ -63,7 +63,7 @@ fn head_in(m: &[u8], at: usize, end: usize) -> Head
 }
 
 // An element with this tag comes next.
-#[tactic(auto, unfolding(crate::specs::Cursor::need_of), using(crate::proofs::CursorLaws::head_in_parent, crate::proofs::CursorLaws::next_tag, crate::proofs::CursorLaws::other_tag))]
+#[tactic(auto, unfolding(crate::specs::Cursor::need_of), using(crate::proofs::CursorLaws::heads))]
 pub(crate) fn need(m: &[u8], c: Cursor, tag: u8) -> Cursor
     ensures { result ≡ need_of m.now tag c }
 {

@@ -182,7 +182,7 @@ fn next_entry(m: &[u8], e: Entries, what: EntryKind) -> Entries
 }
 
 // Entries one after another up to the parent's end.
-#[tactic(auto, using(crate::proofs::EntryLaws::entries_all, crate::proofs::EntryLaws::entries_done, crate::proofs::EntryLaws::entries_less, crate::proofs::EntryLaws::room))]
+#[tactic(auto, using(crate::proofs::EntryLaws::entry_by_entry))]
 pub(crate) fn read_entries(m: &[u8], c: Cursor, what: EntryKind) -> Entries
     ensures { result ≡ entries_of m.now what c }
 {

@@ -125,7 +125,7 @@ fn one(m: &[u8], c: Cursor, what: Each) -> Cursor
 }
 
 // Such elements, one after another up to the parent's end.
-#[tactic(auto, using(crate::proofs::PartsLaws::all_more, crate::proofs::PartsLaws::all_done, crate::proofs::PartsLaws::all_less))]
+#[tactic(auto, using(crate::proofs::PartsLaws::one_by_one))]
 fn all(m: &[u8], c: Cursor, what: Each) -> Cursor
     ensures { result ≡ all_by (one_of m.now what) c }
 {
@@ -148,6 +148,7 @@ pub(crate) fn sequence_of(m: &[u8], c: Cursor, what: Each) -> Cursor
 
 // [n] around one element with the tag `inner`, both with a short length and nothing after the one inside: where they end. None where it
 // is otherwise, and the two are to be read one after the other.
+#[tactic(auto, using(crate::proofs::PartsLaws::short_ends))]
 fn short_field(m: &[u8], c: Cursor, tag: u8, inner: u8) -> Option<usize>
     ensures { IfSome result (λ to. (c.at + 4 ≤ to) × (field_of m.now tag inner c ≡ past_field c to)) }
 {
