@@ -1,23 +1,22 @@
 -- Laws of the cursor's verbs: where an element ends, and how far a cursor moves on.
 use Rattle.std.specs.Prelude.{Ok, Err}
-use Prim.Native.Nat.{ℕ, zero, suc, ◌+◌, ◌-◌, ◌*◌, ◌/◌, ◌%◌, ◌<◌, ◌≤◌}
+use Prim.Native.Nat.{ℕ, zero, suc, ◌+◌, ◌-◌, ◌<◌, ◌≤◌}
 use mathlib.Core.Path.{◌≡◌, refl, sym, ◌∙◌, ap}
 use mathlib.Core.List.{List}
 use mathlib.Core.Bool.{Bool, true, false, cond, ◌||◌, true≢false}
 use native.Mathlib.Nat.{le_refl, add-zero}
 use native.Mathlib.Omega.{arith}
-use borrow.Author.Tests.{ltb-true, ltb-false, leb-false, eq-eqb, ne_eqb}
+use borrow.Author.Tests.{ltb-true, ltb-false, leb-false, lt-ltb, le-leb, ne_eqb}
 use lib.ListN.{length, get_or, take, drop}
 use lib.Seq.{get_or-take, get_or-drop}
 use lib.Dec.{ltb, leb, eqb}
 use Rattle.der.specs.Head.{head_of}
-use Rattle.der.specs.Code.{packed_of}
+use Rattle.der.specs.declared.head.Whole.{Whole}
 use Rattle.der.specs.Types.{Head, whole_head}
 use Rattle.der.proofs.Auto.{and_left, and_right, or_false_left, or_false_right}
-use Rattle.der.proofs.HeadLaws.{cond_both, span_in_lem, whole_in, whole-tag, unpacked}
+use Rattle.der.proofs.HeadLaws.{cond_both, span_in_lem, whole-tag}
 use Rattle.grammar.specs.declared.cursor.Cursor.{Cursor}
-use Rattle.grammar.specs.Code.{packed_if, tagged_of}
-use Rattle.grammar.specs.Cursor.{is_ok, head_in, fault_at, past_of, if_tag, need_of, leave_of, more_at, left_at, repeat}
+use Rattle.grammar.specs.Cursor.{is_ok, head_in, tag_at, fault_at, if_tag, need_of, leave_of, more_at, left_at, repeat}
 
 -- a whole element that stands between two offsets ends inside, and the second lies inside the message
 module _ (m : List ℕ) (at end : ℕ) {tag start len : ℕ} (whole : head_in m at end ≡ whole_head tag start len) where
@@ -34,56 +33,32 @@ module _ (m : List ℕ) (at end : ℕ) {tag start len : ℕ} (whole : head_in m 
   head_in_parent = let s = stands in let w = span_in_lem m at end (omega arith) refl s.2 in (w.0, w.1, s.1)
 
   -- its tag is the byte at the first offset
-  pub head-tag : tag ≡ get_or m at 0
+  head-tag : tag ≡ get_or m at 0
   head-tag =
       let s = stands in
       whole-tag _ s.2 ∙ get_or-take (end - at) (drop at m) 0 0 (omega arith) ∙ get_or-drop at m 0 0 ∙ ap (λ (k : ℕ). get_or m k 0) (add-zero at)
 
+-- the tag of what comes next is the byte there
+pub next_tag : (m : List ℕ) (c : Cursor) {tag start len : ℕ} → head_in m c.at c.end ≡ whole_head tag start len → tag_at m c ≡ tag
+unfolding tag_at
+next_tag m c whole = let s = stands m c.at c.end whole in simp (lt-ltb c.at c.end s.0, le-leb c.end (length m) s.1) (sym (head-tag m c.at c.end whole))
+
 -- another byte there: no element with the tag asked
-pub tagged_other : (m : List ℕ) (at end tag : ℕ) → (get_or m at 0 ≡ tag → ⊥) → tagged_of m at end tag ≡ 0
-unfolding tagged_of
-tagged_other m at end tag n = go (head_in m at end) refl
+pub other_tag : (m : List ℕ) (tag : ℕ) (c : Cursor) → (tag_at m c ≡ tag → ⊥) → if_tag tag c (head_in m c.at c.end) ≡ fault_at c
+other_tag m tag c other = go (head_in m c.at c.end) refl
   where
-    go : (h : Head) → head_in m at end ≡ h → packed_if tag h ≡ 0
+    go : (h : Head) → head_in m c.at c.end ≡ h → if_tag tag c h ≡ fault_at c
     go (Err rule) q = refl
-    go (Ok hd) q = simp (ne_eqb hd.tag tag (λ e. n (sym (head-tag m at end q) ∙ e)))
+    go (Ok hd) q = simp (ne_eqb hd.tag tag (λ e. other (next_tag m c q ∙ e)))
 
--- that byte there: the head as it is packed
-pub tagged-same : (m : List ℕ) (at end tag : ℕ) → get_or m at 0 ≡ tag → tagged_of m at end tag ≡ packed_of (head_in m at end)
-unfolding tagged_of
-tagged-same m at end tag e = go (head_in m at end) refl
-  where
-    go : (h : Head) → head_in m at end ≡ h → packed_if tag h ≡ packed_of h
-    go (Err rule) q = refl
-    go (Ok hd) q = simp (eq-eqb hd.tag tag (head-tag m at end q ∙ e))
+-- the first two of a head that was read
+pub ok_in_parent : (m : List ℕ) (at end : ℕ) {h : Whole} → head_in m at end ≡ Ok h → (2 ≤ h.start) × (at + h.start + h.len ≤ end) × (end ≤ length m)
+ok_in_parent m at end e = head_in_parent m at end e
 
--- what the number says: 0 that what comes next is at fault, any other where the content of what comes next is
-module _ (m : List ℕ) (tag : ℕ) (c : Cursor) {p : ℕ} (packs : p ≡ tagged_of m c.at c.end tag) where
-  pub need_bad : p ≡ 0 → if_tag tag c (head_in m c.at c.end) ≡ fault_at c
-  unfolding tagged_of
-  need_bad z = go (head_in m c.at c.end) refl
-    where
-      go : (h : Head) → head_in m c.at c.end ≡ h → if_tag tag c h ≡ fault_at c
-      go (Err rule) q = refl
-      go (Ok hd) q =
-          cond_both (λ (r : Cursor). r ≡ fault_at c) (eqb hd.tag tag)
-          (λ e. absurd (omega (arith, head_in_parent m c.at c.end q, sym z ∙ packs ∙ ap (packed_if tag) q ∙ ap (λ (b : Bool). cond b (hd.len * 8 + hd.start) 0) e)))
-          (λ e. refl)
+pub ok_tag : (m : List ℕ) (c : Cursor) {h : Whole} → head_in m c.at c.end ≡ Ok h → tag_at m c ≡ h.tag
+ok_tag m c e = next_tag m c e
 
-  pub need_whole : (p ≡ 0 → ⊥) → (if_tag tag c (head_in m c.at c.end) ≡ past_of c (p % 8) (p / 8)) × (c.at + p % 8 + p / 8 ≤ c.end)
-  unfolding tagged_of
-  need_whole n = go (head_in m c.at c.end) refl
-    where
-      go : (h : Head) → head_in m c.at c.end ≡ h → (if_tag tag c h ≡ past_of c (p % 8) (p / 8)) × (c.at + p % 8 + p / 8 ≤ c.end)
-      go (Err rule) q = absurd (n (packs ∙ ap (packed_if tag) q))
-      go (Ok hd) q =
-          cond_both (λ (r : Cursor). (r ≡ past_of c (p % 8) (p / 8)) × (c.at + p % 8 + p / 8 ≤ c.end)) (eqb hd.tag tag)
-          (λ e.
-          let w = head_in_parent m c.at c.end q in
-          let s = whole_in _ refl (stands m c.at c.end q).2 in
-          let u = unpacked hd.start hd.len (omega arith) (packs ∙ ap (packed_if tag) q ∙ ap (λ (b : Bool). cond b (hd.len * 8 + hd.start) 0) e) in
-          (rw (u.0, u.1) refl, rw (u.0, u.1) w.1))
-          (λ e. absurd (n (packs ∙ ap (packed_if tag) q ∙ ap (λ (b : Bool). cond b (hd.len * 8 + hd.start) 0) e)))
+pub ruleset heads = (ok_in_parent, ok_tag, other_tag)
 
 -- ## A step forward
 
@@ -114,21 +89,6 @@ moved_leave {c} i h = cond_both (Moved c) (is_ok i) (λ q. h) (λ q. record { en
 -- ## A loop over elements, for any state that has a cursor and any step that moves it
 
 module _ {S : Type 0} (cur : S → Cursor) (step : S → S) (moves : (s : S) → Moved (cur s) (cur (step s))) where
-  -- what is left to do from s on, with enough turns
-  abbrev pub Left : S → S → Type 0
-  Left s₀ s = (n : ℕ) × (left_at (cur s) ≤ n) × (repeat cur step (left_at (cur s₀)) s₀ ≡ repeat cur step n s)
-
-  pub left-start : (s : S) → Left s s
-  left-start s = (left_at (cur s), le_refl _, refl)
-
-  pub left_end : (s₀ s : S) → Left s₀ s → more_at (cur s) ≡ false → s ≡ repeat cur step (left_at (cur s₀)) s₀
-  unfolding repeat
-  left_end s₀ s h e = sym (h.2 ∙ stop h.0)
-    where
-      stop : (n : ℕ) → repeat cur step n s ≡ s
-      stop zero = refl
-      stop (suc n) = rw e
-
   pub left_less : (s : S) → more_at (cur s) ≡ true → left_at (cur (step s)) < left_at (cur s)
   unfolding more_at
   left_less s e =
@@ -139,13 +99,30 @@ module _ {S : Type 0} (cur : S → Cursor) (step : S → S) (moves : (s : S) →
       (λ q. omega (arith, (moves s).end q, (moves s).on q))
       (λ q. omega arith))
 
-  pub left-more : (s₀ s : S) → Left s₀ s → more_at (cur s) ≡ true → Left s₀ (step s)
+  -- turns past the last element change nothing
+  enough : (n k : ℕ) (s : S) → left_at (cur s) ≤ n → left_at (cur s) ≤ k → repeat cur step n s ≡ repeat cur step k s
   unfolding repeat
-  left-more s₀ s h e = go h.0 h.1 h.2
+  enough zero zero s a b = refl
+  enough zero (suc k) s a b = cond_both (λ (r : S). s ≡ r) (more_at (cur s)) (λ e. absurd (omega (arith, left_less s e))) (λ e. refl)
+  enough (suc n) zero s a b = cond_both (λ (r : S). r ≡ s) (more_at (cur s)) (λ e. absurd (omega (arith, left_less s e))) (λ e. refl)
+  enough (suc n) (suc k) s a b = go (more_at (cur s)) refl (λ e. enough n k (step s) (omega (arith, left_less s e)) (omega (arith, left_less s e)))
     where
-      less : left_at (cur (step s)) < left_at (cur s)
-      less = left_less s e
+      go : (t : Bool) → more_at (cur s) ≡ t → (more_at (cur s) ≡ true → repeat cur step n (step s) ≡ repeat cur step k (step s)) → cond t (repeat cur step n (step s)) s ≡ cond t (repeat cur step k (step s)) s
+      go true e same = same e
+      go false e same = refl
 
-      go : (n : ℕ) → left_at (cur s) ≤ n → repeat cur step (left_at (cur s₀)) s₀ ≡ repeat cur step n s → Left s₀ (step s)
-      go zero k q = absurd (omega (arith, less))
-      go (suc n) k q = (n, omega (arith, less), q ∙ rw e)
+  -- what is to come from s on: from the next one on, or nothing
+  pub rest_more : (s : S) → more_at (cur s) ≡ true → repeat cur step (left_at (cur s)) s ≡ repeat cur step (left_at (cur (step s))) (step s)
+  unfolding repeat
+  rest_more s e =
+      let less = left_less s e in
+      enough (left_at (cur s)) (suc (left_at (cur s))) s (le_refl _) (omega arith)
+      ∙ rw e (enough (left_at (cur s)) (left_at (cur (step s))) (step s) (omega arith) (le_refl _))
+
+  pub rest_done : (s : S) → more_at (cur s) ≡ false → repeat cur step (left_at (cur s)) s ≡ s
+  unfolding repeat
+  rest_done s e = stop (left_at (cur s))
+    where
+      stop : (n : ℕ) → repeat cur step n s ≡ s
+      stop zero = refl
+      stop (suc n) = rw e

@@ -2,11 +2,11 @@
 use Rattle.der.specs.Types.{whole_head}
 use Prim.Native.Nat.{ℕ, ◌+◌, ◌-◌, ◌<◌, ◌≤◌}
 use mathlib.Core.Path.{◌≡◌, refl, sym, ◌∙◌, ap}
-use mathlib.Core.Bool.{true, ◌&&◌}
+use mathlib.Core.Bool.{true, false, ◌&&◌}
 use mathlib.Core.List.{List}
 use native.Mathlib.Nat.{add-zero, add_assoc}
 use native.Mathlib.Omega.{arith}
-use borrow.Author.Tests.{eq-eqb, ne_eqb, eqb-true, lt-ltb, le-ltb, le-leb, lt-leb}
+use borrow.Author.Tests.{eq-eqb, eqb-true, lt-ltb, le-ltb, le-leb, lt-leb}
 use lib.ListN.{length, take, drop, length-drop}
 use lib.Seq.{get_or-take, get_or-drop, length-take-le}
 use lib.Dec.{eqb}
@@ -17,9 +17,9 @@ use Rattle.grammar.specs.declared.cursor.Cursor.{Cursor}
 use Rattle.grammar.specs.declared.parts.Each.{Each}
 use Rattle.grammar.specs.declared.parts.Each.TheVariants.{Text, Certificate, Info}
 use Rattle.grammar.specs.Code.{past_field}
-use Rattle.grammar.specs.Cursor.{head_in, tag_at, past_of, need_of, none_of, done_of, enter_of}
-use Rattle.grammar.specs.Parts.{typed_of, one_of, found_of, optional_field, field_of}
-use Rattle.grammar.proofs.CursorLaws.{Moved, moved_need, moved_leave}
+use Rattle.grammar.specs.Cursor.{head_in, tag_at, past_of, need_of, done_of, enter_of, more_at, left_at}
+use Rattle.grammar.specs.Parts.{typed_of, one_of, all_by, found_of, field_of}
+use Rattle.grammar.proofs.CursorLaws.{Moved, moved_need, moved_leave, left_less, rest_more, rest_done}
 
 pub moved_typed : (m : List ℕ) (c : Cursor) → Moved c (typed_of m c)
 unfolding typed_of
@@ -31,15 +31,20 @@ moved-one m Text c = moved_need m 0x0C c
 moved-one m Certificate c = moved_need m 0x30 c
 moved-one m Info c = moved_typed m c
 
--- ## An optional field, read call by call
+-- the elements of a SEQUENCE OF that are to come: the next one and those after it, or none
+module _ (m : List ℕ) (what : Each) (c : Cursor) where
+  pub all_more : more_at c ≡ true → all_by (one_of m what) c ≡ all_by (one_of m what) (one_of m what c)
+  unfolding all_by
+  all_more e = rest_more (λ (k : Cursor). k) (one_of m what) (moved-one m what) c e
 
-module _ (m : List ℕ) (tag : ℕ) (c : Cursor) {t : ℕ} (next : t ≡ tag_at m c) where
-  -- its tag comes next: the element, into it, what is inside, nothing else, and out
-  pub optional_there : (out : Cursor → Cursor → Cursor) (f : Cursor → Cursor) → t ≡ tag → {o e i d r : Cursor} → o ≡ need_of m tag c → e ≡ enter_of o → i ≡ f e → d ≡ done_of i → r ≡ out o d → r ≡ optional_field out m tag f c
-  optional_there out f same a b p q z = z ∙ rw (eq-eqb (tag_at m c) tag (sym next ∙ same), q, p, b, a) refl
+  pub all_done : more_at c ≡ false → all_by (one_of m what) c ≡ c
+  unfolding all_by
+  all_done e = rest_done (λ (k : Cursor). k) (one_of m what) (moved-one m what) c e
 
-  pub optional_gone : (out : Cursor → Cursor → Cursor) (f : Cursor → Cursor) → (t ≡ tag → ⊥) → {r : Cursor} → r ≡ none_of c → r ≡ optional_field out m tag f c
-  optional_gone out f other z = z ∙ rw (ne_eqb (tag_at m c) tag (λ (e : tag_at m c ≡ tag). other (next ∙ e))) refl
+  pub all_less : more_at c ≡ true → left_at (one_of m what c) < left_at c
+  all_less e = left_less (λ (k : Cursor). k) (one_of m what) (moved-one m what) c e
+
+pub ruleset one_by_one = (all_more, all_done, all_less)
 
 -- ## A short length
 
@@ -86,3 +91,17 @@ tags_told rule first tag inner e =
     let rest = and_right (eqb rule 0) (eqb first tag && (tag_ok tag && tag_ok inner)) e in
     let both = and_right (eqb first tag) (tag_ok tag && tag_ok inner) rest in
     (eqb-true rule 0 (and_left (eqb rule 0) (eqb first tag && (tag_ok tag && tag_ok inner)) e), eqb-true first tag (and_left (eqb first tag) (tag_ok tag && tag_ok inner) rest), and_left (tag_ok tag) (tag_ok inner) both, and_right (tag_ok tag) (tag_ok inner) both)
+
+-- the same where `s` is what is left of the parent: its first four bytes say it
+pub short_ends : (m : List ℕ) (tag inner : ℕ) (c : Cursor) {s : List ℕ} {len held : ℕ} → c.end ≤ length m → s ≡ take (c.end - c.at) (drop c.at m) → length s + c.at ≡ c.end → 4 ≤ length s →
+    (eqb c.rule 0 && (eqb (byte s 0) tag && (tag_ok tag && tag_ok inner))) ≡ true → byte s 2 ≡ inner → len ≡ byte s 1 → len ≤ 127 → len + 2 ≤ length s → held ≡ byte s 3 → held + 2 ≡ len →
+    field_of m tag inner c ≡ past_field c (c.at + 2 + len)
+short_ends m tag inner c {s} {len} {held} inside left size four tags second l low fits h ends =
+    let t = tags_told c.rule (byte s 0) tag inner tags in
+    let b0 : byte m c.at ≡ byte s 0 = ap (byte m) (sym (add-zero c.at)) ∙ sym (there 0 (omega arith)) in
+    let b1 = l ∙ there 1 (omega arith) in
+    let b3 = h ∙ there 3 (omega arith) in
+    rw b1 (field-short m tag inner c t.0 inside (b0 ∙ t.1) t.2 t.3 (omega (arith, b1)) (omega (arith, b1)) (sym (there 2 (omega arith)) ∙ second) (omega (arith, b1, b3)))
+  where
+    there : (k : ℕ) → k < 4 → byte s k ≡ byte m (c.at + k)
+    there k below = ap (λ (z : List ℕ). byte z k) left ∙ get_or-take (c.end - c.at) (drop c.at m) k 0 (omega arith) ∙ get_or-drop c.at m k 0

@@ -16,8 +16,7 @@ use crate::pki_message::start_at;
 fn ends(c: Cursor) -> bool
     ensures { result ≡ is_ok (done_of c) }
 {
-    let d = done(c);
-    d.rule == 0
+    done(c).rule == 0
 }
 
 // Whether this is the tag of a GeneralName.
@@ -52,6 +51,5 @@ pub fn is_general_info(e: &[u8]) -> bool
 pub fn is_request_message(e: &[u8]) -> bool
     ensures { result ≡ alone (λ m c. (request_of m c).cur) e.now }
 {
-    let i = request(e, start_at(e.len()));
-    ends(i.cur)
+    ends(request(e, start_at(e.len())).cur)
 }

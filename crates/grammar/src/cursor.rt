@@ -1,11 +1,10 @@
 // A cursor over a message, and the verbs that every grammar rule is made of. A fault sticks: each verb hands a faulty cursor on.
-ghost use Rattle.std.specs.Prelude.{◌≡◌, ◌+◌, ◌-◌, ◌^◌, ◌<◌, take, drop};
-ghost use Rattle.grammar.specs.Code.{tagged_of};
-ghost use Rattle.grammar.specs.Cursor.{tag_at, fault_at, past_of, need_of, any_of, none_of, maybe_of, rest_of, done_of, enter_of, leave_of, content_of, value_of, small_integer_of, more_at};
+ghost use Rattle.std.specs.Prelude.{◌≡◌, ◌+◌, ◌^◌, ◌<◌};
+ghost use Rattle.grammar.specs.Cursor.{head_in, tag_at, fault_at, past_of, need_of, any_of, none_of, maybe_of, rest_of, done_of, enter_of, leave_of, content_of, value_of, small_integer_of, more_at};
 
 use crate::part_of;
 use crate::parts::found_span;
-use der::head;
+use der::head::{self, Head};
 use der::integer::signed32;
 
 // Where the next element is sought and where its parent ends; what the last one held; and the rule that is broken where the
@@ -20,30 +19,21 @@ pub struct Cursor {
 }
 
 // The tag byte of the next element; 0, which is no tag, where nothing is left.
+#[tactic(auto, unfolding(crate::specs::Cursor::tag_at))]
 pub(crate) fn tag_at(m: &[u8], c: Cursor) -> u8
     ensures { result ≡ tag_at m.now c }
 {
-    let at = c.at;
-    let end = c.end;
-    if at < end {
-        if end <= m.len() {
-            return m[at];
-        }
+    match m.get(c.at..c.end) {
+        Some([first, ..]) => *first,
+        _ => 0,
     }
-    0
 }
 
 // What comes next, or is missing, is at fault.
 pub(crate) fn fault_at(c: Cursor) -> Cursor
     ensures { result ≡ fault_at c }
 {
-    Cursor {
-        at: c.at,
-        end: c.end,
-        from: c.from,
-        to: c.to,
-        rule: 5,
-    }
+    Cursor { rule: 5, ..c }
 }
 
 fn past(c: Cursor, start: usize, len: usize) -> Cursor
@@ -54,44 +44,44 @@ fn past(c: Cursor, start: usize, len: usize) -> Cursor
     let to = from + len;
     Cursor {
         at: to,
-        end: c.end,
         from,
         to,
         rule: 0,
+        ..c
     }
 }
 
-// Tag and length of the element between two offsets as `head::packed` gives them; 0 also where its tag is another.
-fn tagged(m: &[u8], at: usize, end: usize, tag: u8) -> usize
-    ensures { result ≡ tagged_of m.now at end tag }
+// Tag and length of the element between two offsets.
+#[tactic(auto, unfolding(crate::specs::Cursor::head_in, der::specs::Head::head_of))]
+fn head_in(m: &[u8], at: usize, end: usize) -> Head
+    ensures { result ≡ head_in m.now at end }
 {
-    if end <= at {
-        return 0;
+    match m.get(at..end) {
+        Some(left) => head::read(left),
+        None => Err(2),
     }
-    if m.len() < end {
-        return 0;
-    }
-    if m[at] == tag {
-        return head::packed(&m[at..end]);
-    }
-    0
 }
 
 // An element with this tag comes next.
+#[tactic(auto, unfolding(crate::specs::Cursor::need_of), using(crate::proofs::CursorLaws::heads))]
 pub(crate) fn need(m: &[u8], c: Cursor, tag: u8) -> Cursor
     ensures { result ≡ need_of m.now tag c }
 {
-    if c.rule == 0 {
-        let p = tagged(m, c.at, c.end, tag);
-        if p == 0 {
-            return fault_at(c);
-        }
-        return past(c, p % 8, p / 8);
+    if c.rule != 0 {
+        return c;
     }
-    c
+    // the tag first, which is quicker
+    if tag_at(m, c) != tag {
+        return fault_at(c);
+    }
+    match head_in(m, c.at, c.end) {
+        Ok(head) => past(c, head.start, head.len),
+        Err(_) => fault_at(c),
+    }
 }
 
 // One element comes next, whatever its tag.
+#[tactic(auto, unfolding(crate::specs::Cursor::any_of))]
 pub(crate) fn any(m: &[u8], c: Cursor) -> Cursor
     ensures { result ≡ any_of m.now c }
 {
@@ -103,15 +93,14 @@ pub(crate) fn none(c: Cursor) -> Cursor
     ensures { result ≡ none_of c }
 {
     Cursor {
-        at: c.at,
-        end: c.end,
         from: 0,
         to: 0,
-        rule: c.rule,
+        ..c
     }
 }
 
 // An element with this tag may come next.
+#[tactic(auto, unfolding(crate::specs::Cursor::maybe_of))]
 pub(crate) fn maybe(m: &[u8], c: Cursor, tag: u8) -> Cursor
     ensures { result ≡ maybe_of m.now tag c }
 {
@@ -123,6 +112,7 @@ pub(crate) fn maybe(m: &[u8], c: Cursor, tag: u8) -> Cursor
 }
 
 // At most one more element, whatever its tag.
+#[tactic(auto, unfolding(crate::specs::Cursor::rest_of))]
 pub(crate) fn rest(m: &[u8], c: Cursor) -> Cursor
     ensures { result ≡ rest_of m.now c }
 {
@@ -130,6 +120,7 @@ pub(crate) fn rest(m: &[u8], c: Cursor) -> Cursor
 }
 
 // Nothing more comes.
+#[tactic(auto, unfolding(crate::specs::Cursor::done_of))]
 pub(crate) fn done(c: Cursor) -> Cursor
     ensures { result ≡ done_of c }
 {
@@ -137,6 +128,7 @@ pub(crate) fn done(c: Cursor) -> Cursor
 }
 
 // Into the element read last.
+#[tactic(auto, unfolding(crate::specs::Cursor::enter_of))]
 pub(crate) fn enter(c: Cursor) -> Cursor
     ensures { result ≡ enter_of c }
 {
@@ -144,40 +136,23 @@ pub(crate) fn enter(c: Cursor) -> Cursor
         Cursor {
             at: c.from,
             end: c.to,
-            from: 0,
-            to: 0,
-            rule: 0,
+            ..none(c)
         }
     } else {
         c
     }
 }
 
-// Back out of it, with a fault that was met inside. Field by field: a choice between two whole cursors would keep both in memory.
+// Back out of it, with a fault that was met inside.
+#[tactic(auto, unfolding(crate::specs::Cursor::leave_of))]
 pub(crate) fn leave(outer: Cursor, inner: Cursor) -> Cursor
     ensures { result ≡ leave_of outer inner }
 {
-    if inner.rule == 0 {
-        Cursor {
-            at: outer.at,
-            end: outer.end,
-            from: outer.from,
-            to: outer.to,
-            rule: outer.rule,
-        }
-    } else {
-        inner
-    }
-}
-
-// From one offset up to another.
-pub(crate) fn distance(a: usize, b: usize) -> usize
-    ensures { result ≡ b - a }
-{
-    if a <= b { b - a } else { 0 }
+    if inner.rule == 0 { outer } else { inner }
 }
 
 // What the element read last holds.
+#[tactic(auto, unfolding(crate::specs::Cursor::content_of))]
 pub(crate) fn content(m: &[u8], c: Cursor) -> &[u8]
     ensures { result.now ≡ content_of m.now c }
 {
@@ -185,6 +160,7 @@ pub(crate) fn content(m: &[u8], c: Cursor) -> &[u8]
 }
 
 // The number that the INTEGER read last says.
+#[tactic(auto, unfolding(crate::specs::Cursor::value_of))]
 pub(crate) fn value(m: &[u8], c: Cursor) -> u32
     ensures { result ≡ value_of m.now c }
 {
@@ -192,20 +168,22 @@ pub(crate) fn value(m: &[u8], c: Cursor) -> u32
 }
 
 // An INTEGER of at most four content bytes.
+#[tactic(auto, unfolding(crate::specs::Cursor::small_integer_of))]
 pub(crate) fn small_integer(m: &[u8], c: Cursor) -> Cursor
     ensures { result ≡ small_integer_of m.now c }
 {
     let n = need(m, c, 0x02);
-    let len = distance(n.from, n.to);
-    if 4 < len {
-        return fault_at(c);
+    if 4 < n.to.saturating_sub(n.from) {
+        fault_at(c)
+    } else {
+        n
     }
-    n
 }
 
 // Whether another element is to be read.
+#[tactic(auto, unfolding(crate::specs::Cursor::more_at))]
 pub(crate) fn more(c: Cursor) -> bool
     ensures { result ≡ more_at c }
 {
-    if c.rule == 0 { c.at < c.end } else { false }
+    c.rule == 0 && c.at < c.end
 }

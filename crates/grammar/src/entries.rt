@@ -7,7 +7,8 @@ use crate::cursor::{
     Cursor, any, done, enter, leave, maybe, more, need, none, small_integer, tag_at, value,
 };
 use crate::parts::{
-    any_field, found, found_span, maybe_status, span_from, status_info, typed_field, whole_span,
+    any_field, around, found, found_span, maybe_status, span_from, status_info, typed_field,
+    whole_span,
 };
 
 // What a body's entries are.
@@ -48,36 +49,37 @@ pub(crate) fn no_entry() -> Entry
 }
 
 // CertReqMsg, as far as its certReqId.
+#[tactic(auto, unfolding(crate::specs::Entries::request_of))]
 pub(crate) fn request(m: &[u8], c: Cursor) -> Item
     ensures { result ≡ request_of m.now c }
 {
     let s = need(m, c, 0x30);
     let q = need(m, enter(s), 0x30);
     let n = small_integer(m, enter(q));
-    let cur = leave(s, leave(q, n));
-    let mut entry = no_entry();
-    entry.number = value(m, n);
-    entry.request = whole_span(c, s);
-    Item { cur, entry }
+    Item {
+        cur: leave(s, leave(q, n)),
+        entry: Entry {
+            number: value(m, n),
+            request: whole_span(c, s),
+            ..no_entry()
+        },
+    }
 }
 
 // CertOrEncCert: the span is the plain certificate, or none.
+#[tactic(auto, unfolding(crate::specs::Entries::choice_of))]
 fn choice(m: &[u8], c: Cursor) -> Cursor
     ensures { result ≡ choice_of m.now c }
 {
-    let t = tag_at(m, c);
-    if t == 0xA0 {
-        let o = need(m, c, 0xA0);
-        let i = need(m, enter(o), 0x30);
-        leave(o, done(i))
+    if tag_at(m, c) == 0xA0 {
+        around(m, c, 0xA0, |i| need(m, i, 0x30))
     } else {
-        let o = need(m, c, 0xA1);
-        let i = any(m, enter(o));
-        none(leave(o, done(i)))
+        none(around(m, c, 0xA1, |i| any(m, i)))
     }
 }
 
 // CertifiedKeyPair: the span is the plain certificate, or none.
+#[tactic(auto, unfolding(crate::specs::Entries::key_pair))]
 fn key_pair(m: &[u8], c: Cursor) -> Cursor
     ensures { result ≡ key_pair m.now c }
 {
@@ -89,14 +91,19 @@ fn key_pair(m: &[u8], c: Cursor) -> Cursor
     found(leave(s, d), leave(k, d))
 }
 
+#[tactic(auto, unfolding(crate::specs::Entries::maybe_key_pair))]
 fn maybe_key_pair(m: &[u8], c: Cursor) -> Cursor
     ensures { result ≡ maybe_key_pair m.now c }
 {
-    let t = tag_at(m, c);
-    if t == 0x30 { key_pair(m, c) } else { none(c) }
+    if tag_at(m, c) == 0x30 {
+        key_pair(m, c)
+    } else {
+        none(c)
+    }
 }
 
 // CertResponse.
+#[tactic(auto, unfolding(crate::specs::Entries::response_of))]
 fn response(m: &[u8], c: Cursor) -> Item
     ensures { result ≡ response_of m.now c }
 {
@@ -105,15 +112,19 @@ fn response(m: &[u8], c: Cursor) -> Item
     let i = status_info(m, n);
     let k = maybe_key_pair(m, i.cur);
     let r = maybe(m, k, 0x04);
-    let cur = leave(s, done(r));
-    let mut entry = no_entry();
-    entry.number = value(m, n);
-    entry.status = i.status;
-    entry.certificate = found_span(k);
-    Item { cur, entry }
+    Item {
+        cur: leave(s, done(r)),
+        entry: Entry {
+            number: value(m, n),
+            status: i.status,
+            certificate: found_span(k),
+            ..no_entry()
+        },
+    }
 }
 
 // CertStatus.
+#[tactic(auto, unfolding(crate::specs::Entries::cert_status_of))]
 fn cert_status(m: &[u8], c: Cursor) -> Item
     ensures { result ≡ cert_status_of m.now c }
 {
@@ -122,15 +133,19 @@ fn cert_status(m: &[u8], c: Cursor) -> Item
     let n = small_integer(m, h);
     let i = maybe_status(m, n);
     let a = typed_field(m, i.cur, 0xA0);
-    let cur = leave(s, done(a));
-    let mut entry = no_entry();
-    entry.number = value(m, n);
-    entry.status = i.status;
-    entry.cert_hash = found_span(h);
-    entry.hash_alg = found_span(a);
-    Item { cur, entry }
+    Item {
+        cur: leave(s, done(a)),
+        entry: Entry {
+            number: value(m, n),
+            status: i.status,
+            cert_hash: found_span(h),
+            hash_alg: found_span(a),
+            ..no_entry()
+        },
+    }
 }
 
+#[tactic(auto, unfolding(crate::specs::Entries::entry_of))]
 fn entry_of(m: &[u8], c: Cursor, what: EntryKind) -> Item
     ensures { result ≡ entry_of m.now what c }
 {
@@ -156,16 +171,15 @@ fn next_entry(m: &[u8], e: Entries, what: EntryKind) -> Entries
     ensures { result ≡ next m.now what e }
 {
     let i = entry_of(m, e.cur, what);
-    let cur = i.cur;
-    let last = i.entry;
     Entries {
-        cur,
+        cur: i.cur,
         count: e.count + 1,
-        last,
+        last: i.entry,
     }
 }
 
 // Entries one after another up to the parent's end.
+#[tactic(auto, using(crate::proofs::EntryLaws::entry_by_entry))]
 pub(crate) fn read_entries(m: &[u8], c: Cursor, what: EntryKind) -> Entries
     ensures { result ≡ entries_of m.now what c }
 {

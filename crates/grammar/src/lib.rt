@@ -79,16 +79,7 @@ pub struct Message {
 pub fn part_of(message: &[u8], span: Span) -> &[u8]
     ensures { result.now ≡ part_of message.now span }
 {
-    let start = span.start;
-    let from = start.0;
-    let len = span.len;
-    let n = message.len();
-    if n <= from {
-        return &message[0..0];
-    }
-    if n - from <= len {
-        return &message[from..];
-    }
-    let end = from + len;
-    &message[from..end]
+    let from = span.start.0.min(message.len());
+    let rest = &message[from..];
+    rest.get(..span.len).unwrap_or(rest)
 }

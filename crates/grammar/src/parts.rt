@@ -1,15 +1,15 @@
 // Grammar rules that several parts of a message share.
-ghost use Rattle.std.specs.Prelude.{◌≡◌, ◌⊎◌, ◌&&◌, ◌+◌, ◌<◌, ◌≤◌, eqb};
+ghost use Rattle.std.specs.Prelude.{◌≡◌, ◌&&◌, ◌+◌, ◌≤◌, eqb, IfSome};
 ghost use Rattle.der.specs.Head.{tag_ok};
-ghost use Rattle.grammar.specs.Code.{past_field};
-ghost use Rattle.grammar.specs.Cursor.{need_of, done_of, enter_of};
+ghost use Rattle.grammar.specs.Code.{past_field, Computes, around_of};
+ghost use Rattle.grammar.specs.Cursor.{need_of, done_of, enter_of, leave_of};
 ghost use Rattle.grammar.specs.Span.{span_from};
-ghost use Rattle.grammar.specs.Parts.{found_span, whole_span, outer_span, found_of, typed_of, all_by, sequence_by, sequence_of, field_of, typed_field, any_field, sequence_field, maybe_text, last_bit_set, fail_info_of, status_of, maybe_status};
+ghost use Rattle.grammar.specs.Parts.{found_span, whole_span, outer_span, found_of, typed_of, one_of, all_by, sequence_of, optional_field, field_of, typed_field, any_field, sequence_field, maybe_text, last_bit_set, fail_info_of, status_of, maybe_status};
 
 use crate::Span;
 use crate::cursor::{
-    Cursor, any, content, distance, done, enter, fault_at, leave, more, need, none, rest,
-    small_integer, tag_at, value,
+    Cursor, any, content, done, enter, fault_at, leave, more, need, none, rest, small_integer,
+    tag_at, value,
 };
 use der::Offset;
 use der::head::tag_ok;
@@ -34,7 +34,7 @@ pub(crate) fn span_from(a: usize, b: usize) -> Span
 {
     Span {
         start: Offset(a),
-        len: distance(a, b),
+        len: b.saturating_sub(a),
     }
 }
 
@@ -59,126 +59,112 @@ pub(crate) fn outer_span(before: Cursor, after: Cursor) -> Span
     if after.from == 0 {
         span_from(0, 0)
     } else {
-        span_from(before.at, after.at)
+        whole_span(before, after)
     }
 }
 
 // Back out of an element, with the span of what was found inside.
+#[tactic(auto, unfolding(crate::specs::Parts::found_of))]
 pub(crate) fn found(outer: Cursor, inner: Cursor) -> Cursor
     ensures { result ≡ found_of outer inner }
 {
     if inner.rule == 0 {
         Cursor {
-            at: outer.at,
-            end: outer.end,
             from: inner.from,
             to: inner.to,
-            rule: outer.rule,
+            ..outer
         }
     } else {
         inner
     }
 }
 
+// An element with this tag, which holds what `inside` reads and nothing after it.
+pub(crate) fn around<F: FnOnce(Cursor) -> Cursor>(m: &[u8], c: Cursor, tag: u8, inside: F) -> Cursor
+    requires { F.IsAlwaysCallable inside }
+    ensures { (f : Cursor → Cursor) → Computes (F.post inside) f → result ≡ around_of m.now tag f c }
+{
+    let o = need(m, c, tag);
+    leave(o, done(inside(enter(o))))
+}
+
+// The same where the tag comes next, and nothing otherwise.
+fn optional<F: FnOnce(Cursor) -> Cursor>(m: &[u8], c: Cursor, tag: u8, inside: F) -> Cursor
+    requires { F.IsAlwaysCallable inside }
+    ensures { (f : Cursor → Cursor) → Computes (F.post inside) f → result ≡ optional_field leave_of m.now tag f c }
+{
+    if tag_at(m, c) == tag {
+        around(m, c, tag, inside)
+    } else {
+        none(c)
+    }
+}
+
 // AlgorithmIdentifier or InfoTypeAndValue.
+#[tactic(auto, unfolding(crate::specs::Parts::typed_of))]
 pub(crate) fn typed(m: &[u8], c: Cursor) -> Cursor
     ensures { result ≡ typed_of m.now c }
 {
     let s = need(m, c, 0x30);
     let o = need(m, enter(s), 0x06);
-    let r = rest(m, o);
-    leave(s, done(r))
+    leave(s, done(rest(m, o)))
 }
 
-// Elements with this tag, one after another up to the parent's end.
-fn all_tagged(m: &[u8], c: Cursor, tag: u8) -> Cursor
-    ensures { result ≡ all_by (need_of m.now tag) c }
+// One element of it. Inlined, so that which it is to be is asked outside the loop.
+#[inline(always)]
+#[tactic(auto, unfolding(crate::specs::Parts::one_of))]
+fn one(m: &[u8], c: Cursor, what: Each) -> Cursor
+    ensures { result ≡ one_of m.now what c }
+{
+    match what {
+        Each::Text => need(m, c, 0x0C),
+        Each::Certificate => need(m, c, 0x30),
+        Each::Info => typed(m, c),
+    }
+}
+
+// Such elements, one after another up to the parent's end.
+#[tactic(auto, using(crate::proofs::PartsLaws::one_by_one))]
+fn all(m: &[u8], c: Cursor, what: Each) -> Cursor
+    ensures { result ≡ all_by (one_of m.now what) c }
 {
     let mut k = c;
     while more(k) {
-        k = need(m, k, tag);
+        k = one(m, k, what);
     }
     k
-}
-
-fn all_typed(m: &[u8], c: Cursor) -> Cursor
-    ensures { result ≡ all_by (typed_of m.now) c }
-{
-    let mut k = c;
-    while more(k) {
-        k = typed(m, k);
-    }
-    k
-}
-
-fn sequence_tagged(m: &[u8], c: Cursor, tag: u8) -> Cursor
-    ensures { result ≡ sequence_by m.now (need_of m.now tag) c }
-{
-    let s = need(m, c, 0x30);
-    let first = need(m, enter(s), tag);
-    leave(s, all_tagged(m, first, tag))
-}
-
-fn sequence_typed(m: &[u8], c: Cursor) -> Cursor
-    ensures { result ≡ sequence_by m.now (typed_of m.now) c }
-{
-    let s = need(m, c, 0x30);
-    let first = typed(m, enter(s));
-    leave(s, all_typed(m, first))
 }
 
 // A SEQUENCE of one or more.
+#[tactic(auto, unfolding(crate::specs::Parts::sequence_of, crate::specs::Parts::sequence_by))]
 pub(crate) fn sequence_of(m: &[u8], c: Cursor, what: Each) -> Cursor
     ensures { result ≡ sequence_of m.now what c }
 {
-    match what {
-        Each::Text => sequence_tagged(m, c, 0x0C),
-        Each::Certificate => sequence_tagged(m, c, 0x30),
-        Each::Info => sequence_typed(m, c),
-    }
+    let s = need(m, c, 0x30);
+    let first = one(m, enter(s), what);
+    leave(s, all(m, first, what))
 }
 
-// A byte as a number to count with.
-fn wide(x: u8) -> usize
-    ensures { (result ≡ x) × (result < 256) }
+// [n] around one element with the tag `inner`, both with a short length and nothing after the one inside: where they end. None where it
+// is otherwise, and the two are to be read one after the other.
+#[tactic(auto, using(crate::proofs::PartsLaws::short_ends))]
+fn short_field(m: &[u8], c: Cursor, tag: u8, inner: u8) -> Option<usize>
+    ensures { IfSome result (λ to. (c.at + 4 ≤ to) × (field_of m.now tag inner c ≡ past_field c to)) }
 {
-    x as usize
-}
-
-// [n] around one element with the tag `inner`, both with a short length and nothing after the one inside: where they end. 0 where it is
-// otherwise, and the two are to be read one after the other.
-fn short_field(m: &[u8], c: Cursor, tag: u8, inner: u8) -> usize
-    ensures { (result ≡ 0) ⊎ ((c.at + 4 ≤ result) × (field_of m.now tag inner c ≡ past_field c result)) }
-{
-    let at = c.at;
-    let end = c.end;
-    if m.len() < end {
-        return 0;
-    }
-    if end <= at {
-        return 0;
-    }
-    let left = end - at;
-    if left < 4 {
-        return 0;
-    }
-    let len = wide(m[at + 1]);
-    if 127 < len {
-        return 0;
-    }
-    if left < len + 2 {
-        return 0;
-    }
-    if wide(m[at + 3]) + 2 != len {
-        return 0;
-    }
-    if m[at + 2] != inner {
-        return 0;
-    }
-    if tags_ok(m[at], tag, inner, c.rule) {
-        at + 2 + len
+    let left = m.get(c.at..c.end)?;
+    let [first, len, second, held, ..] = left else {
+        return None;
+    };
+    let len = usize::from(*len);
+    if tags_ok(*first, tag, inner, c.rule)
+        && *second == inner
+        && len <= 127
+        && len + 2 <= left.len()
+        && usize::from(*held) + 2 == len
+    {
+        Some(c.at + 2 + len)
     } else {
-        0
+        None
     }
 }
 
@@ -186,14 +172,7 @@ fn short_field(m: &[u8], c: Cursor, tag: u8, inner: u8) -> usize
 fn tags_ok(first: u8, tag: u8, inner: u8, rule: usize) -> bool
     ensures { result ≡ (eqb rule 0 && (eqb first tag && (tag_ok tag && tag_ok inner))) }
 {
-    if rule == 0 {
-        if first == tag {
-            if tag_ok(tag) {
-                return tag_ok(inner);
-            }
-        }
-    }
-    false
+    rule == 0 && first == tag && tag_ok(tag) && tag_ok(inner)
 }
 
 // The two one after the other.
@@ -206,115 +185,90 @@ fn long_field(m: &[u8], c: Cursor, tag: u8, inner: u8) -> Cursor
 }
 
 // [n] around one element with the tag `inner`: the span is what that one holds.
+#[tactic(auto, unfolding(crate::specs::Parts::field_of))]
 pub(crate) fn field(m: &[u8], c: Cursor, tag: u8, inner: u8) -> Cursor
     ensures { result ≡ field_of m.now tag inner c }
 {
-    let t = tag_at(m, c);
-    if t == tag {
-        let to = short_field(m, c, tag, inner);
-        if to == 0 {
-            return long_field(m, c, tag, inner);
-        }
-        Cursor {
+    if tag_at(m, c) != tag {
+        return none(c);
+    }
+    match short_field(m, c, tag, inner) {
+        Some(to) => Cursor {
             at: to,
-            end: c.end,
             from: c.at + 4,
             to,
             rule: 0,
-        }
-    } else {
-        none(c)
+            ..c
+        },
+        None => long_field(m, c, tag, inner),
     }
 }
 
 // [n] around an AlgorithmIdentifier, which is the span.
+#[tactic(auto, unfolding(crate::specs::Parts::typed_field))]
 pub(crate) fn typed_field(m: &[u8], c: Cursor, tag: u8) -> Cursor
     ensures { result ≡ typed_field m.now tag c }
 {
-    let t = tag_at(m, c);
-    if t == tag {
-        let o = need(m, c, tag);
-        let i = typed(m, enter(o));
-        leave(o, done(i))
-    } else {
-        none(c)
-    }
+    optional(m, c, tag, |i| typed(m, i))
 }
 
 // [n] around one element, whatever it is, which is the span.
+#[tactic(auto, unfolding(crate::specs::Parts::any_field))]
 pub(crate) fn any_field(m: &[u8], c: Cursor, tag: u8) -> Cursor
     ensures { result ≡ any_field m.now tag c }
 {
-    let t = tag_at(m, c);
-    if t == tag {
-        let o = need(m, c, tag);
-        let i = any(m, enter(o));
-        leave(o, done(i))
-    } else {
-        none(c)
-    }
+    optional(m, c, tag, |i| any(m, i))
 }
 
 // [n] around a SEQUENCE of one or more, which is the span.
+#[tactic(auto, unfolding(crate::specs::Parts::sequence_field))]
 pub(crate) fn sequence_field(m: &[u8], c: Cursor, tag: u8, what: Each) -> Cursor
     ensures { result ≡ sequence_field m.now tag what c }
 {
-    let t = tag_at(m, c);
-    if t == tag {
-        let o = need(m, c, tag);
-        let i = sequence_of(m, enter(o), what);
-        leave(o, done(i))
-    } else {
-        none(c)
-    }
+    optional(m, c, tag, |i| sequence_of(m, i, what))
 }
 
 // PKIFreeText, or none.
+#[tactic(auto, unfolding(crate::specs::Parts::maybe_text))]
 pub(crate) fn maybe_text(m: &[u8], c: Cursor) -> Cursor
     ensures { result ≡ maybe_text m.now c }
 {
-    let t = tag_at(m, c);
-    if t == 0x30 {
-        sequence_tagged(m, c, 0x0C)
+    if tag_at(m, c) == 0x30 {
+        sequence_of(m, c, Each::Text)
     } else {
         none(c)
     }
 }
 
 // Whether a BIT STRING ends in a bit that is set, or has none.
+#[tactic(auto, unfolding(crate::specs::Parts::last_bit_set))]
 fn last_bit_set(b: &[u8]) -> bool
     ensures { result ≡ last_bit_set b.now }
 {
-    let n = b.len();
-    if n <= 1 {
-        return true;
+    match b {
+        [unused, .., last] => 7 < *unused || (*last >> *unused) % 2 == 1,
+        _ => true,
     }
-    let unused = b[0];
-    if 7 < unused {
-        return true;
-    }
-    let last = b[n - 1];
-    last / (1 << unused) % 2 == 1
 }
 
 // PKIFailureInfo, or none.
+#[tactic(auto, unfolding(crate::specs::Parts::fail_info_of))]
 fn fail_info(m: &[u8], c: Cursor) -> Cursor
     ensures { result ≡ fail_info_of m.now c }
 {
-    let t = tag_at(m, c);
-    if t == 0x03 {
-        let b = need(m, c, 0x03);
-        if last_bit_set(content(m, b)) {
-            b
-        } else {
-            fault_at(c)
-        }
+    if tag_at(m, c) != 0x03 {
+        return none(c);
+    }
+    let b = need(m, c, 0x03);
+    if last_bit_set(content(m, b)) {
+        b
     } else {
-        none(c)
+        fault_at(c)
     }
 }
 
 // PKIStatusInfo.
+#[tactic(auto, unfolding(crate::specs::Parts::status_of))]
 pub(crate) fn status_info(m: &[u8], c: Cursor) -> Status
     ensures { result ≡ status_of m.now c }
 {
@@ -322,19 +276,18 @@ pub(crate) fn status_info(m: &[u8], c: Cursor) -> Status
     let v = small_integer(m, enter(s));
     let t = maybe_text(m, v);
     let f = fail_info(m, t);
-    let cur = leave(s, done(f));
     Status {
-        cur,
+        cur: leave(s, done(f)),
         status: Some(value(m, v)),
     }
 }
 
 // PKIStatusInfo, or none.
+#[tactic(auto, unfolding(crate::specs::Parts::maybe_status))]
 pub(crate) fn maybe_status(m: &[u8], c: Cursor) -> Status
     ensures { result ≡ maybe_status m.now c }
 {
-    let t = tag_at(m, c);
-    if t == 0x30 {
+    if tag_at(m, c) == 0x30 {
         status_info(m, c)
     } else {
         Status {

@@ -1,6 +1,6 @@
 // PKIBody.
-ghost use Rattle.std.specs.Prelude.{◌≡◌, ◌||◌, ◌-◌, ◌≤◌, eqb};
-ghost use Rattle.grammar.specs.Body.{plain, from_entries, at_least_one, requests_of, responses_of, confirmations_of, error_of, other_of, p10cr_of, contents_of, body_tag, body_of};
+ghost use Rattle.std.specs.Prelude.{◌≡◌};
+ghost use Rattle.grammar.specs.Body.{plain, from_entries, at_least_one, requests_of, responses_of, confirmations_of, error_of, p10cr_of, contents_of, body_tag, body_of};
 
 use crate::cursor::{Cursor, any, done, enter, fault_at, leave, maybe, need, tag_at};
 use crate::entries::{Entries, EntryKind, no_entry, only, read_entries};
@@ -39,11 +39,11 @@ fn from_entries(cur: Cursor, ca_pubs: Span, e: Entries) -> Contents
 fn at_least_one(e: Entries) -> Cursor
     ensures { result ≡ at_least_one e }
 {
-    let cur = e.cur;
-    if e.count == 0 { fault_at(cur) } else { cur }
+    if e.count == 0 { fault_at(e.cur) } else { e.cur }
 }
 
 // CertReqMessages: ir, cr and kur.
+#[tactic(auto, unfolding(crate::specs::Body::requests_of))]
 fn requests(m: &[u8], c: Cursor) -> Contents
     ensures { result ≡ requests_of m.now c }
 {
@@ -53,6 +53,7 @@ fn requests(m: &[u8], c: Cursor) -> Contents
 }
 
 // CertRepMessage: ip, cp and kup.
+#[tactic(auto, unfolding(crate::specs::Body::responses_of))]
 fn responses(m: &[u8], c: Cursor) -> Contents
     ensures { result ≡ responses_of m.now c }
 {
@@ -60,11 +61,12 @@ fn responses(m: &[u8], c: Cursor) -> Contents
     let a = sequence_field(m, enter(s), 0xA1, Each::Certificate);
     let q = need(m, a, 0x30);
     let e = read_entries(m, enter(q), EntryKind::Response);
-    let d = done(leave(q, e.cur));
-    from_entries(leave(s, d), found_span(a), e)
+    let cur = leave(s, done(leave(q, e.cur)));
+    from_entries(cur, found_span(a), e)
 }
 
 // CertConfirmContent.
+#[tactic(auto, unfolding(crate::specs::Body::confirmations_of))]
 fn confirmations(m: &[u8], c: Cursor) -> Contents
     ensures { result ≡ confirmations_of m.now c }
 {
@@ -74,6 +76,7 @@ fn confirmations(m: &[u8], c: Cursor) -> Contents
 }
 
 // ErrorMsgContent.
+#[tactic(auto, unfolding(crate::specs::Body::error_of))]
 fn error(m: &[u8], c: Cursor) -> Contents
     ensures { result ≡ error_of m.now c }
 {
@@ -81,14 +84,12 @@ fn error(m: &[u8], c: Cursor) -> Contents
     let i = status_info(m, enter(s));
     let n = maybe(m, i.cur, 0x02);
     let t = maybe_text(m, n);
-    let cur = leave(s, done(t));
-    let mut entry = no_entry();
-    entry.status = i.status;
     Contents {
-        cur,
-        entries: 0,
-        ca_pubs: span_from(0, 0),
-        entry,
+        entry: Entry {
+            status: i.status,
+            ..no_entry()
+        },
+        ..plain_contents(leave(s, done(t)))
     }
 }
 
@@ -105,111 +106,61 @@ fn plain_contents(cur: Cursor) -> Contents
 }
 
 // PKCS #10: the request is the one element.
+#[tactic(auto, unfolding(crate::specs::Body::p10cr_of))]
 fn p10cr(m: &[u8], c: Cursor) -> Contents
     ensures { result ≡ p10cr_of m.now c }
 {
     let e = any(m, c);
-    let mut entry = no_entry();
-    entry.request = whole_span(c, e);
     Contents {
-        cur: e,
-        entries: 0,
-        ca_pubs: span_from(0, 0),
-        entry,
+        entry: Entry {
+            request: whole_span(c, e),
+            ..no_entry()
+        },
+        ..plain_contents(e)
     }
 }
 
-// pkiconf, p10cr, and the kinds that are generic here.
-fn other(m: &[u8], c: Cursor, kind: u8) -> Contents
-    ensures { result ≡ other_of m.now kind c }
-{
-    if kind == 4 {
-        return p10cr(m, c);
-    }
-    if kind == 19 {
-        return plain_contents(need(m, c, 0x05));
-    }
-    plain_contents(any(m, c))
-}
-
-// ir, cr and kur.
-fn is_request(kind: u8) -> bool
-    ensures { result ≡ (eqb kind 0 || (eqb kind 2 || eqb kind 7)) }
-{
-    if kind == 0 {
-        return true;
-    }
-    if kind == 2 {
-        return true;
-    }
-    kind == 7
-}
-
-// ip, cp and kup.
-fn is_response(kind: u8) -> bool
-    ensures { result ≡ (eqb kind 1 || (eqb kind 3 || eqb kind 8)) }
-{
-    if kind == 1 {
-        return true;
-    }
-    if kind == 3 {
-        return true;
-    }
-    kind == 8
-}
-
+// What a body of this kind holds; the kinds that are not named are generic here.
+#[tactic(auto, unfolding(crate::specs::Body::contents_of, crate::specs::Body::other_of))]
 fn contents_of(m: &[u8], c: Cursor, kind: u8) -> Contents
     ensures { result ≡ contents_of m.now kind c }
 {
-    if is_request(kind) {
-        return requests(m, c);
+    match kind {
+        0 | 2 | 7 => requests(m, c),
+        1 | 3 | 8 => responses(m, c),
+        4 => p10cr(m, c),
+        19 => plain_contents(need(m, c, 0x05)),
+        23 => error(m, c),
+        24 => confirmations(m, c),
+        _ => plain_contents(any(m, c)),
     }
-    if is_response(kind) {
-        return responses(m, c);
-    }
-    if kind == 23 {
-        return error(m, c);
-    }
-    if kind == 24 {
-        return confirmations(m, c);
-    }
-    other(m, c, kind)
 }
 
 // The next element's tag: [0] to [26], constructed.
+#[tactic(auto, unfolding(crate::specs::Body::body_tag))]
 fn body_tag(m: &[u8], c: Cursor) -> Cursor
     ensures { result ≡ body_tag m.now c }
 {
-    let t = tag_at(m, c);
-    if t < 0xA0 {
-        return fault_at(c);
+    match tag_at(m, c) {
+        t @ 0xA0..=0xBA => need(m, c, t),
+        _ => fault_at(c),
     }
-    if 0xBA < t {
-        return fault_at(c);
-    }
-    need(m, c, t)
 }
 
-fn kind_of(t: u8) -> u8
-    ensures { result ≡ t - 0xA0 }
-{
-    if 0xA0 <= t { t - 0xA0 } else { 0 }
-}
-
+#[tactic(auto, unfolding(crate::specs::Body::body_of))]
 pub(crate) fn read_body(m: &[u8], c: Cursor) -> BodyRead
     ensures { result ≡ body_of m.now c }
 {
-    let kind = kind_of(tag_at(m, c));
+    let kind = tag_at(m, c).saturating_sub(0xA0);
     let b = body_tag(m, c);
     let i = contents_of(m, enter(b), kind);
-    let cur = leave(b, done(i.cur));
-    let ca_pubs = i.ca_pubs;
-    let entry = i.entry;
-    let body = Body {
-        kind,
-        entries: i.entries,
-        ca_pubs,
-        entry,
-    };
-    BodyRead { cur, body }
+    BodyRead {
+        cur: leave(b, done(i.cur)),
+        body: Body {
+            kind,
+            entries: i.entries,
+            ca_pubs: i.ca_pubs,
+            entry: i.entry,
+        },
+    }
 }

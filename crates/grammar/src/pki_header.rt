@@ -42,37 +42,18 @@ pub struct HeaderRead {
     pub header: Header,
 }
 
+#[tactic(auto, unfolding(crate::specs::Header::name_tag))]
 pub(crate) fn name_tag(t: u8) -> bool
     ensures { result ≡ name_tag t }
 {
-    if t == 0xA0 {
-        return true;
-    }
-    if t == 0x81 {
-        return true;
-    }
-    if t == 0x82 {
-        return true;
-    }
-    if t == 0xA3 {
-        return true;
-    }
-    if t == 0xA4 {
-        return true;
-    }
-    if t == 0xA5 {
-        return true;
-    }
-    if t == 0x86 {
-        return true;
-    }
-    if t == 0x87 {
-        return true;
-    }
-    t == 0x88
+    matches!(
+        t,
+        0xA0 | 0x81 | 0x82 | 0xA3 | 0xA4 | 0xA5 | 0x86 | 0x87 | 0x88
+    )
 }
 
 // GeneralName.
+#[tactic(auto, unfolding(crate::specs::Header::name_of))]
 fn name(m: &[u8], c: Cursor) -> Cursor
     ensures { result ≡ name_of m.now c }
 {
@@ -84,6 +65,7 @@ fn name(m: &[u8], c: Cursor) -> Cursor
     }
 }
 
+#[tactic(auto, unfolding(crate::specs::Header::names_of))]
 fn read_names(m: &[u8], c: Cursor) -> Names
     ensures { result ≡ names_of m.now c }
 {
@@ -98,6 +80,7 @@ fn read_names(m: &[u8], c: Cursor) -> Names
     }
 }
 
+#[tactic(auto, unfolding(crate::specs::Header::options_of))]
 fn read_options(m: &[u8], c: Cursor) -> Options
     ensures { result ≡ options_of m.now c }
 {
@@ -114,6 +97,7 @@ fn read_options(m: &[u8], c: Cursor) -> Options
     }
 }
 
+#[tactic(auto, unfolding(crate::specs::Header::ids_of))]
 fn read_ids(m: &[u8], c: Cursor) -> Ids
     ensures { result ≡ ids_of m.now c }
 {
@@ -132,6 +116,7 @@ fn read_ids(m: &[u8], c: Cursor) -> Ids
     }
 }
 
+#[tactic(auto, unfolding(crate::specs::Header::header_of))]
 pub(crate) fn read_header(m: &[u8], c: Cursor) -> HeaderRead
     ensures { result ≡ header_of m.now c }
 {
@@ -139,37 +124,27 @@ pub(crate) fn read_header(m: &[u8], c: Cursor) -> HeaderRead
     let n = read_names(m, enter(s));
     let o = read_options(m, n.cur);
     let i = read_ids(m, o.cur);
-    let cur = leave(s, done(i.cur));
-    let header = join(n, o, i);
-    HeaderRead { cur, header }
+    HeaderRead {
+        cur: leave(s, done(i.cur)),
+        header: join(n, o, i),
+    }
 }
 
 fn join(n: Names, o: Options, i: Ids) -> Header
     ensures { result ≡ joined n o i }
 {
-    let sender = n.sender;
-    let recipient = n.recipient;
-    let message_time = o.message_time;
-    let protection_alg = o.protection_alg;
-    let sender_kid = o.sender_kid;
-    let recip_kid = o.recip_kid;
-    let transaction_id = i.transaction_id;
-    let sender_nonce = i.sender_nonce;
-    let recip_nonce = i.recip_nonce;
-    let free_text = i.free_text;
-    let general_info = i.general_info;
     Header {
         version: n.version,
-        sender,
-        recipient,
-        message_time,
-        protection_alg,
-        sender_kid,
-        recip_kid,
-        transaction_id,
-        sender_nonce,
-        recip_nonce,
-        free_text,
-        general_info,
+        sender: n.sender,
+        recipient: n.recipient,
+        message_time: o.message_time,
+        protection_alg: o.protection_alg,
+        sender_kid: o.sender_kid,
+        recip_kid: o.recip_kid,
+        transaction_id: i.transaction_id,
+        sender_nonce: i.sender_nonce,
+        recip_nonce: i.recip_nonce,
+        free_text: i.free_text,
+        general_info: i.general_info,
     }
 }

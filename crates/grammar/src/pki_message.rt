@@ -17,6 +17,7 @@ pub struct MessageRead {
     pub found: Message,
 }
 
+#[tactic(auto, unfolding(crate::specs::Message::start_at))]
 pub(crate) fn start_at(end: usize) -> Cursor
     ensures { result ≡ start_at end }
 {
@@ -30,6 +31,7 @@ pub(crate) fn start_at(end: usize) -> Cursor
 }
 
 // Reads a message by its grammar.
+#[tactic(auto, unfolding(crate::specs::Message::message_of))]
 pub fn read_message(m: &[u8]) -> MessageRead
     ensures { result ≡ message_of m.now }
 {
@@ -40,19 +42,16 @@ pub fn read_message(m: &[u8]) -> MessageRead
     let p = field(m, b.cur, 0xA0, 0x03);
     let x = sequence_field(m, p, 0xA1, Each::Certificate);
     let cur = done(leave(s, done(x)));
-    let header = h.header;
-    let body = b.body;
-    let found = Message {
-        header_span: whole_span(c, h.cur),
-        body_span: whole_span(h.cur, b.cur),
-        protection: outer_span(b.cur, p),
-        extra_certs: outer_span(p, x),
-        header,
-        body,
-    };
     MessageRead {
         met: cur.rule == 0,
         at: Offset(cur.at),
-        found,
+        found: Message {
+            header_span: whole_span(c, h.cur),
+            body_span: whole_span(h.cur, b.cur),
+            protection: outer_span(b.cur, p),
+            extra_certs: outer_span(p, x),
+            header: h.header,
+            body: b.body,
+        },
     }
 }

@@ -1,14 +1,13 @@
--- The entries passed are read and counted, and those to come decide; each one moves the cursor on.
-use Rattle.grammar.specs.declared.entries.Entries.{Entries}
+-- The entries from here on make up all of them; and they are counted.
+use Rattle.std.proofs.Common.{◌≡◌}
 use Rattle.grammar.specs.Cursor.{left_at}
-use Rattle.grammar.specs.Entries.{next}
-use Rattle.grammar.proofs.CursorLaws.{Left}
-use Rattle.grammar.proofs.EntryLaws.{moved-next, Counted}
+use Rattle.grammar.specs.Entries.{entries_of}
+use Rattle.grammar.proofs.EntryLaws.{entries_from, Counted}
 use Rattle.grammar.proofs.entries.read_entries.Given as goal
 
 abbrev pub invariant-loop-what : goal.invariant-loop-what
 invariant-loop-what l =
-    Left (λ (x : Entries). x.cur) (next l.m l.what) (moved-next l.m l.what) l.initial.e l.e × Counted l.e
+    (entries_from l.m l.what l.e ≡ entries_of l.m l.what l.fn.c) × Counted l.e
 
 abbrev pub decreases-loop-what : goal.decreases-loop-what
 decreases-loop-what l =
