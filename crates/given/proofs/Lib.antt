@@ -1,3 +1,2 @@
 pub mod FitsLaws
-pub mod NumberLaws
 pub mod SpanRules

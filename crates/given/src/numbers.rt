@@ -13,22 +13,17 @@ pub const GIVEN: usize = 22;
 fn number(numbers: &[u64], i: usize) -> usize
     ensures { result ≡ get_or numbers.now i 0 }
 {
-    if i < numbers.len() {
-        return numbers[i] as usize;
-    }
-    0
+    numbers.get(i).map_or(0, |n| *n as usize)
 }
 
 // The k-th span.
 fn span_at(numbers: &[u64], k: u8) -> Span
     ensures { result ≡ span_at numbers.now k }
 {
-    let i = 2 * k as usize;
-    let start = number(numbers, i);
-    let len = number(numbers, i + 1);
+    let i = 2 * usize::from(k);
     Span {
-        start: Offset(start),
-        len,
+        start: Offset(number(numbers, i)),
+        len: number(numbers, i + 1),
     }
 }
 
@@ -36,29 +31,18 @@ fn span_at(numbers: &[u64], k: u8) -> Span
 pub fn spans_of(version: u32, numbers: &[u64]) -> GivenSpans
     ensures { result ≡ spans_of version numbers.now }
 {
-    let sender = span_at(numbers, 0);
-    let recipient = span_at(numbers, 1);
-    let message_time = span_at(numbers, 2);
-    let protection_alg = span_at(numbers, 3);
-    let sender_kid = span_at(numbers, 4);
-    let recip_kid = span_at(numbers, 5);
-    let free_text = span_at(numbers, 6);
-    let general_info = span_at(numbers, 7);
-    let protection = span_at(numbers, 8);
-    let request = span_at(numbers, 9);
-    let certificate = span_at(numbers, 10);
     GivenSpans {
         version,
-        sender,
-        recipient,
-        message_time,
-        protection_alg,
-        sender_kid,
-        recip_kid,
-        free_text,
-        general_info,
-        protection,
-        request,
-        certificate,
+        sender: span_at(numbers, 0),
+        recipient: span_at(numbers, 1),
+        message_time: span_at(numbers, 2),
+        protection_alg: span_at(numbers, 3),
+        sender_kid: span_at(numbers, 4),
+        recip_kid: span_at(numbers, 5),
+        free_text: span_at(numbers, 6),
+        general_info: span_at(numbers, 7),
+        protection: span_at(numbers, 8),
+        request: span_at(numbers, 9),
+        certificate: span_at(numbers, 10),
     }
 }

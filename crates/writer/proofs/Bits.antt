@@ -1,9 +1,9 @@
 -- A failure bit: the shortest BIT STRING with that bit set.
 use Prim.Native.Nat.{ℕ, zero, suc, ◌+◌, ◌-◌, ◌/◌, ◌%◌, ◌^◌, ◌<◌, ◌≤◌}
 use mathlib.Core.List.{List, [], ◌∷◌}
-use mathlib.Core.Path.{◌≡◌, refl, sym, ◌∙◌, ap, subst}
+use mathlib.Core.Path.{◌≡◌, refl, ap, subst}
 use native.Mathlib.Omega.{arith}
-use lib.ListN.{length, take, length-append, length-replicate}
+use lib.ListN.{take, length-append, length-replicate}
 use Rattle.protocol.specs.Bytes.{zeros}
 use Rattle.encoding.specs.Message.{bit_content}
 use Rattle.writer.specs.Puts.{Puts}
@@ -20,9 +20,6 @@ zeros-put {at} {r} {s} {s'} n p = subst (λ (l : List ℕ). Puts at r l s s') (s
 pub bit-content-size : (b : ℕ) → b < 256 → Size (b / 8 + 2) (bit_content b)
 unfolding bit_content
 bit-content-size b h = record { is = omega (arith, length-append (zeros (b / 8)) ((2 ^ (7 - b % 8)) ∷ []), length-replicate {A = ℕ} (b / 8) 0) }
-
-pub zeros-size : (n : ℕ) → n % 32 ≡ length (take (n % 32) (zeros 32))
-zeros-size n = sym (ap length (some_zeros (n % 32) 32 (omega arith)) ∙ length-replicate {A = ℕ} (n % 32) 0)
 
 -- a byte's bit is in one of 32 bytes
 pub bit_byte : (b : ℕ) → b < 256 → b / 8 % 32 ≡ b / 8

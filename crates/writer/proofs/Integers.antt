@@ -7,6 +7,8 @@ use native.Mathlib.Omega.{arith}
 use lib.Dec.{ltb, leb}
 use lib.ListN.{take, drop}
 use borrow.Author.Tests.{lt-ltb}
+use Rattle.std.specs.Int.{to_be_bytes, byte_at}
+use mir.Syntax.{w32}
 use Rattle.encoding.specs.Element.{element, integer_bytes, integer}
 use Rattle.writer.specs.Puts.{Puts}
 use Rattle.writer.specs.Sizes.{Size}
@@ -15,6 +17,12 @@ use Rattle.writer.proofs.Sizes.{size-around}
 
 abbrev four_bytes : ℕ → List ℕ
 four_bytes n = n / 16777216 ∷ n / 65536 % 256 ∷ n / 256 % 256 ∷ n % 256 ∷ []
+
+pub four-is : (n : ℕ) → n < 4294967296 → to_be_bytes w32 n ≡ four_bytes n
+four-is n h =
+    let a : byte_at 3 n ≡ n / 16777216 = omega arith in
+    let d : byte_at 0 n ≡ n % 256 = omega arith in
+    cc
 
 needed : (n : ℕ) → take (4 - unneeded n) (drop (unneeded n) (four_bytes n)) ≡ integer_bytes n
 unfolding unneeded integer_bytes

@@ -1,13 +1,13 @@
 -- Laws of bytes put into a buffer.
-use Prim.Native.Nat.{ℕ, suc, ◌+◌, ◌/◌, ◌%◌, ◌<◌, ◌≤◌}
+use Prim.Native.Nat.{ℕ, suc, ◌+◌, ◌-◌, ◌<◌, ◌≤◌}
 use mathlib.Core.List.{List, [], ◌∷◌, ◌++◌, append-nil}
 use mathlib.Core.Path.{◌≡◌, refl, sym, ◌∙◌, ap, subst}
-use native.Mathlib.Numerals.{add-one}
-use native.Mathlib.Nat.{add-zero, suc-add, add-suc, le_of_lt}
+use native.Mathlib.Nat.{add-zero, suc-add, add-suc}
 use native.Mathlib.Omega.{arith}
-use borrow.Author.Tests.{lt-ltb, le-ltb}
-use lib.ListN.{length, take, set, get_or, length-append, length-set}
-use lib.Seq.{sets, length-sets, length-take-le, take-suc, take_all}
+use lib.ListN.{length, take, drop, set, length-append}
+use lib.Seq.{sets, sets-eq, length-sets, take_all}
+use borrow.Rule.Slice.PartMut.{put_mid}
+use Rattle.std.proofs.lemmas.Slice.{put_mid-paste}
 use Rattle.der.specs.Head.{head_bytes}
 use Rattle.encoding.specs.Element.{element}
 use Rattle.writer.specs.Puts.{Put, Puts}
@@ -20,36 +20,21 @@ sets_append l i (x ∷ xs) ys =
     sets_append (set l i x) (suc i) xs ys
     ∙ ap (λ (k : ℕ). sets (sets (set l i x) (suc i) xs) k ys) (suc-add i (length xs) ∙ sym (add-suc i (length xs)))
 
--- ## A copy: the first i bytes of x are in their places
-
-pub record Copied (at : ℕ) (x s₀ s : List ℕ) (i : ℕ) : Type 0 where
-  pub below : i ≤ length x
-  pub is : s ≡ sets s₀ at (take i x)
-  pub size : length s ≡ length s₀
-
-pub copy_more : (x : List ℕ) {at : ℕ} {s₀ s : List ℕ} {i : ℕ} → Copied at x s₀ s i → i < length x → Copied at x s₀ (set s (at + i) (get_or x i 0)) (i + 1)
-copy_more x {at} {s₀} {s} {i} p k = record {
-  below = omega arith;
-  is = rw (p.is, add-one i, take-suc x i 0 k, sets_append s₀ at (take i x) (get_or x i 0 ∷ []), length-take-le i x (le_of_lt k));
-  size = length-set s (at + i) (get_or x i 0) ∙ p.size;
-}
-
-pub copy_all : (x : List ℕ) {at i : ℕ} {s₀ s : List ℕ} → Copied at x s₀ s i → length x ≤ i → Put at (at + length x) x s₀ s
-copy_all x {at} {i} {s₀} p k = record { is = p.is ∙ ap (sets s₀ at) (take_all i x k); end = refl }
-
--- ## Room
+-- ## A copy
 
 module _ (x s : List ℕ) (at : ℕ) where
-  -- there is none, and nothing is put in
-  pub left_out : (r : ℕ) → length s < at + length x → Puts at r x s s
-  left_out r h = record { size = refl; put = λ room few. absurd (omega arith) }
+  -- the part of s from an offset on is x
+  pub copied : (part : List ℕ) → at + length x ≤ length s → part ≡ x → Puts at (at + length x) x s (put_mid at (at + length x - at) s part)
+  copied part room e =
+      let is : put_mid at (at + length x - at) s part ≡ sets s at x =
+      put_mid-paste at (at + length x - at) s part x (length x) e (omega arith) refl
+      ∙ ap (λ (l : List ℕ). take at s ++ l ++ drop (at + length x) s) (take_all (length x) x (omega arith))
+      ∙ sym (sets-eq x s at room) in
+      record { size = ap length is ∙ length-sets s at x; put = λ room few. record { is = is; end = refl } }
 
-  -- there is, and it is put in
-  pub put_in : (r : ℕ) (s' : List ℕ) → Put at r x s s' → Puts at r x s s'
-  put_in r s' p = record { size = ap length p.is ∙ length-sets s at x; put = λ room few. p }
-
-pub nothing : (s : List ℕ) (at : ℕ) → Puts at at [] s s
-nothing s at = record { size = refl; put = λ room few. record { is = refl; end = sym (add-zero at) } }
+-- the same bytes under another name
+pub puts_as : {at r : ℕ} {x y s s' : List ℕ} → x ≡ y → Puts at r y s s' → Puts at r x s s'
+puts_as {at} {r} {x} {y} {s} {s'} e p = subst (λ (l : List ℕ). Puts at r l s s') (sym e) p
 
 -- ## One after another
 
@@ -81,22 +66,3 @@ around {at} {a} {r} {n} {v} {s₀} {s₁} {s₂} tag e p q = record {
       let f : n ≡ length v = e.is ∙ omega arith in
       (subst (λ (j : ℕ). Puts at a (head_bytes tag j) s₀ s₁) f p then q).put room few;
 }
-
--- around a part that is given whole
-pub whole : {at r : ℕ} {s s' : List ℕ} (tag : ℕ) (e : List ℕ) → Puts at r (element tag e) s s' → Puts at r (element tag (e ++ [])) s s'
-whole {at} {r} {s} {s'} tag e p = subst (λ (l : List ℕ). Puts at r (element tag l) s s') (sym (append-nil e)) p
-
--- ## The three forms of a head
-
-module _ (tag len : ℕ) {at r : ℕ} {s s' : List ℕ} where
-  pub head-short : len < 128 → Puts at r (tag ∷ len ∷ []) s s' → Puts at r (head_bytes tag len) s s'
-  unfolding head_bytes
-  head-short h p = rw (lt-ltb len 128 h) p
-
-  pub head_81 : 128 ≤ len → len < 256 → Puts at r (tag ∷ 0x81 ∷ len ∷ []) s s' → Puts at r (head_bytes tag len) s s'
-  unfolding head_bytes
-  head_81 h k p = rw (le-ltb len 128 h, lt-ltb len 256 k) p
-
-  pub head_82 : 256 ≤ len → Puts at r (tag ∷ 0x82 ∷ len / 256 ∷ len % 256 ∷ []) s s' → Puts at r (head_bytes tag len) s s'
-  unfolding head_bytes
-  head_82 h p = rw (le-ltb len 128 (omega arith), le-ltb len 256 h) p

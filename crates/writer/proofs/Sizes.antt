@@ -1,10 +1,10 @@
 -- Laws of sizes.
-use Prim.Native.Nat.{ℕ, ◌+◌, ◌<◌, ◌≤◌}
+use Prim.Native.Nat.{ℕ, ◌+◌}
 use mathlib.Core.List.{List, [], ◌++◌, append-nil}
-use mathlib.Core.Path.{◌≡◌, refl, sym, ◌∙◌, ap}
+use mathlib.Core.Path.{◌≡◌, refl, sym, ◌∙◌, ap, subst}
 use mathlib.Core.Bool.{Bool, true, false}
 use native.Mathlib.Omega.{arith}
-use borrow.Author.Tests.{lt-ltb, le-ltb, ltb-true, ltb-false}
+use borrow.Author.Tests.{ltb-true, ltb-false}
 use lib.Dec.{ltb}
 use lib.ListN.{length, length-append}
 use Rattle.der.specs.Head.{head_bytes}
@@ -21,6 +21,10 @@ head-size tag len =
 
 pub size_none : Size 0 []
 size_none = record { is = refl }
+
+-- the size of the same bytes under another name
+pub size_as : {r : ℕ} {x y : List ℕ} → x ≡ y → Size r y → Size r x
+size_as {r} e p = subst (Size r) (sym e) p
 
 -- one part after another
 pub size_then : {a b r : ℕ} {x y : List ℕ} → Size a x → Size b y → r ≡ size16 (a + b) → Size r (x ++ y)
@@ -44,13 +48,3 @@ size-around {n} {r} {v} tag p e = record {
       e ∙ around-same n (length v) p.is
       ∙ omega (arith, length-append (head_bytes tag (length v)) v, head-size tag (length v));
 }
-
-module _ (len : ℕ) where
-  pub around_2 : len < 128 → len + 2 ≡ size16 (len + head_size len)
-  around_2 h = rw (lt-ltb len 128 h) (omega arith)
-
-  pub around_3 : 128 ≤ len → len < 256 → len + 3 ≡ size16 (len + head_size len)
-  around_3 h k = rw (le-ltb len 128 h, lt-ltb len 256 k) (omega arith)
-
-  pub around_4 : (r : ℕ) → 256 ≤ len → r ≡ size16 (len + 4) → r ≡ size16 (len + head_size len)
-  around_4 r h e = e ∙ sym (rw (le-ltb len 128 (omega arith), le-ltb len 256 h))

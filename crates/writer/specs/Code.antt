@@ -2,12 +2,10 @@
 use Rattle.std.specs.Prelude.{ℕ, List, [], ◌++◌, cond, ◌||◌, ltb, leb, eqb}
 use Rattle.std.proofs.Math.Option.{Option, none}
 use Rattle.protocol.specs.Types.{FailureInfo}
-use Rattle.protocol.specs.declared.OutgoingContents.{OutgoingContents}
 use Rattle.protocol.specs.declared.Outgoing.{Outgoing}
-use Rattle.protocol.specs.Message.{cert_conf, error_kind}
 use Rattle.encoding.specs.Element.{element, field, optional, integer}
 use Rattle.encoding.specs.Given.{Given}
-use Rattle.encoding.specs.Message.{failure_bits, status_bytes, key_pair_bytes, confirmations_bytes, error_bytes, names_bytes, options_bytes, ids_bytes, header_bytes, body_bytes}
+use Rattle.encoding.specs.Message.{failure_bits, status_bytes, key_pair_bytes, names_bytes, options_bytes, ids_bytes, header_bytes, body_bytes}
 
 -- how many of a number's four bytes its INTEGER does not need
 unfoldable pub unneeded : ℕ → ℕ
@@ -29,12 +27,6 @@ response_content n s e = integer n ++ (status_bytes s none ++ (key_pair_bytes e 
 
 abbrev pub confirmation_content : (hash : List ℕ) (number status : ℕ) → List ℕ
 confirmation_content h n s = element 0x04 h ++ (integer n ++ (cond (eqb s 0) [] (status_bytes s none) ++ []))
-
--- what a body holds that takes nothing from the caller
-abbrev pub own_content : (kind : ℕ) → OutgoingContents → List ℕ
-own_content k c =
-    cond (eqb k error_kind) (error_bytes c.status c.failure)
-    (cond (eqb k cert_conf) (confirmations_bytes c.hash.bytes c.number c.status) (element 0x05 []))
 
 abbrev pub message_content : Given → Outgoing → List ℕ
 message_content g o = header_bytes g o ++ (body_bytes g o ++ (field 0xA0 0x03 g.protection ++ []))

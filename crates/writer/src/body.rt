@@ -8,14 +8,13 @@ ghost use Rattle.encoding.specs.Message.{bit_content, failure_bits, status_bytes
 ghost use Rattle.writer.specs.Puts.{Puts};
 ghost use Rattle.writer.specs.Sizes.{Size};
 ghost use Rattle.given.specs.Spans.{given_of};
-ghost use Rattle.writer.specs.Code.{status_content, response_content, confirmation_content, own_content};
+ghost use Rattle.writer.specs.Code.{status_content, response_content, confirmation_content};
 
-use crate::element::{integer_size, part_size, put_element, put_integer, put_part};
-use crate::put::{byte, bytes, head};
+use crate::element::{given_part, integer_size, part_size, put_element, put_integer, put_part};
+use crate::put::{bytes, head};
 use crate::size::{around, size, sum};
 use given::GivenSpans;
 use grammar::Span;
-use parts::is_present;
 use protocol::kinds::{CERT_CONF, ERROR, P10CR, is_enrolment_kind, is_response};
 use protocol::{FailureInfo, Hash, OutgoingContents};
 
@@ -26,8 +25,7 @@ fn put_zeros(buf: &mut [u8], at: usize, n: u8) -> usize
     ensures { Puts at result (zeros (n % 32)) buf.old buf.new }
 {
     let z = [0u8; 32];
-    let len = (n % 32) as usize;
-    bytes(buf, at, &z[..len])
+    bytes(buf, at, &z[..usize::from(n % 32)])
 }
 
 // A BIT STRING in which just this bit is set, its head before it.
@@ -36,17 +34,18 @@ fn put_bit(buf: &mut [u8], at: usize, bit: u8) -> usize
 {
     let unused = 7 - bit % 8;
     let a = head(buf, at, 0x03, bit_content_size(bit));
-    let b = byte(buf, a, unused);
+    let b = bytes(buf, a, &[unused]);
     let c = put_zeros(buf, b, bit / 8);
-    byte(buf, c, 1 << unused)
+    bytes(buf, c, &[1 << unused])
 }
 
 fn bit_content_size(bit: u8) -> u16
     ensures { Size result (bit_content bit) }
 {
-    (bit / 8 + 2) as u16
+    u16::from(bit / 8) + 2
 }
 
+#[tactic(auto, unfolding(encoding::specs::Element::optional))]
 fn put_failure(buf: &mut [u8], at: usize, f: FailureInfo) -> usize
     ensures { Puts at result (optional 0x03 (failure_bits f)) buf.old buf.new }
 {
@@ -56,6 +55,7 @@ fn put_failure(buf: &mut [u8], at: usize, f: FailureInfo) -> usize
     }
 }
 
+#[tactic(auto, unfolding(encoding::specs::Element::optional))]
 fn failure_size(f: FailureInfo) -> u16
     ensures { Size result (optional 0x03 (failure_bits f)) }
 {
@@ -94,35 +94,42 @@ fn put_requests(buf: &mut [u8], at: usize, src: &[u8], request: Span) -> usize
     put_part(buf, a, src, request)
 }
 
+fn requests_size(src: &[u8], request: Span) -> u16
+    ensures { Size result (requests_bytes (bytes_of (optional_part src.now request))) }
+{
+    around(part_size(src, request))
+}
+
 // ## Responses
 
+#[tactic(auto, unfolding(encoding::specs::Message::key_pair_bytes))]
 fn key_pair_size(src: &[u8], certificate: Span) -> u16
     ensures { Size result (key_pair_bytes (optional_part src.now certificate)) }
 {
-    if is_present(certificate) {
-        return around(around(part_size(src, certificate)));
+    match given_part(src, certificate) {
+        Some(e) => around(around(size(e))),
+        None => 0,
     }
-    0
 }
 
+#[tactic(auto, unfolding(encoding::specs::Message::key_pair_bytes))]
 fn put_key_pair(buf: &mut [u8], at: usize, src: &[u8], certificate: Span) -> usize
     ensures { Puts at result (key_pair_bytes (optional_part src.now certificate)) buf.old buf.new }
 {
-    if is_present(certificate) {
-        let n = part_size(src, certificate);
-        let a = head(buf, at, 0x30, around(n));
-        let b = head(buf, a, 0xA0, n);
-        return put_part(buf, b, src, certificate);
-    }
-    at
+    let Some(e) = given_part(src, certificate) else {
+        return at;
+    };
+    let n = size(e);
+    let a = head(buf, at, 0x30, around(n));
+    let b = head(buf, a, 0xA0, n);
+    bytes(buf, b, e)
 }
 
 fn response_content_size(src: &[u8], certificate: Span, number: u32, status: u32) -> u16
     ensures { Size result (response_content number status (optional_part src.now certificate)) }
 {
-    let n = integer_size(number);
-    let s = status_size(status, None);
-    sum(n, sum(s, key_pair_size(src, certificate)))
+    let info = sum(status_size(status, None), key_pair_size(src, certificate));
+    sum(integer_size(number), info)
 }
 
 // What a response holds.
@@ -160,6 +167,12 @@ fn put_responses(
     put_response_content(buf, c, src, certificate, number, status)
 }
 
+fn responses_size(src: &[u8], certificate: Span, number: u32, status: u32) -> u16
+    ensures { Size result (responses_bytes number status (optional_part src.now certificate)) }
+{
+    around(around(around(response_content_size(src, certificate, number, status))))
+}
+
 // ## certConf
 
 // "A certConf's status 0 being left out."
@@ -174,38 +187,44 @@ fn put_other_status(buf: &mut [u8], at: usize, status: u32) -> usize
     ensures { Puts at result (cond (eqb status 0) [] (status_bytes status none)) buf.old buf.new }
 {
     if is_left_out(status) {
-        return at;
+        at
+    } else {
+        put_status(buf, at, status, None)
     }
-    put_status(buf, at, status, None)
 }
 
 fn other_status_size(status: u32) -> u16
     ensures { Size result (cond (eqb status 0) [] (status_bytes status none)) }
 {
     if is_left_out(status) {
-        return 0;
+        0
+    } else {
+        status_size(status, None)
     }
-    status_size(status, None)
 }
 
 fn confirmation_content_size(hash: Hash, number: u32, status: u32) -> u16
     ensures { Size result (confirmation_content hash.bytes number status) }
 {
-    let h = hash.bytes;
-    let n = integer_size(number);
-    sum(around(size(&h)), sum(n, other_status_size(status)))
+    let rest = sum(integer_size(number), other_status_size(status));
+    sum(around(size(&hash.bytes)), rest)
 }
 
 fn put_confirmations(buf: &mut [u8], at: usize, hash: Hash, number: u32, status: u32) -> usize
     ensures { Puts at result (confirmations_bytes hash.bytes number status) buf.old buf.new }
 {
     let n = confirmation_content_size(hash, number, status);
-    let h = hash.bytes;
     let a = head(buf, at, 0x30, around(n));
     let b = head(buf, a, 0x30, n);
-    let c = put_element(buf, b, 0x04, &h);
+    let c = put_element(buf, b, 0x04, &hash.bytes);
     let d = put_integer(buf, c, number);
     put_other_status(buf, d, status)
+}
+
+fn confirmations_size(hash: Hash, number: u32, status: u32) -> u16
+    ensures { Size result (confirmations_bytes hash.bytes number status) }
+{
+    around(around(confirmation_content_size(hash, number, status)))
 }
 
 // ## error
@@ -217,6 +236,12 @@ fn put_error(buf: &mut [u8], at: usize, status: u32, f: FailureInfo) -> usize
     put_status(buf, a, status, f)
 }
 
+fn error_size(status: u32, f: FailureInfo) -> u16
+    ensures { Size result (error_bytes status f) }
+{
+    around(status_size(status, f))
+}
+
 // ## pkiconf
 
 fn put_null(buf: &mut [u8], at: usize) -> usize
@@ -225,22 +250,15 @@ fn put_null(buf: &mut [u8], at: usize) -> usize
     head(buf, at, 0x05, 0)
 }
 
-// ## By the kind
-
-// Of the kinds that carry no caller's element.
-fn put_own_content(buf: &mut [u8], at: usize, kind: u8, c: OutgoingContents) -> usize
-    ensures { Puts at result (own_content kind c) buf.old buf.new }
+fn null_size() -> u16
+    ensures { Size result (element 0x05 []) }
 {
-    let failure = c.failure;
-    if kind == ERROR {
-        return put_error(buf, at, c.status, failure);
-    }
-    if kind == CERT_CONF {
-        return put_confirmations(buf, at, c.hash, c.number, c.status);
-    }
-    put_null(buf, at)
+    around(0)
 }
 
+// ## By the kind
+
+#[tactic(auto, unfolding(encoding::specs::Message::content_bytes))]
 pub(crate) fn put_content(
     buf: &mut [u8],
     at: usize,
@@ -251,48 +269,26 @@ pub(crate) fn put_content(
 ) -> usize
     ensures { Puts at result (content_bytes (given_of src.now g) kind c) buf.old buf.new }
 {
-    if kind == P10CR {
-        return put_part(buf, at, src, g.request);
+    match kind {
+        P10CR => put_part(buf, at, src, g.request),
+        _ if is_enrolment_kind(kind) => put_requests(buf, at, src, g.request),
+        _ if is_response(kind) => put_responses(buf, at, src, g.certificate, c.number, c.status),
+        ERROR => put_error(buf, at, c.status, c.failure),
+        CERT_CONF => put_confirmations(buf, at, c.hash, c.number, c.status),
+        _ => put_null(buf, at),
     }
-    if is_enrolment_kind(kind) {
-        return put_requests(buf, at, src, g.request);
-    }
-    if is_response(kind) {
-        return put_responses(buf, at, src, g.certificate, c.number, c.status);
-    }
-    put_own_content(buf, at, kind, c)
 }
 
-fn own_content_size(kind: u8, c: OutgoingContents) -> u16
-    ensures { Size result (own_content kind c) }
-{
-    let failure = c.failure;
-    if kind == ERROR {
-        return around(status_size(c.status, failure));
-    }
-    if kind == CERT_CONF {
-        return around(around(confirmation_content_size(c.hash, c.number, c.status)));
-    }
-    around(0)
-}
-
-fn responses_size(src: &[u8], certificate: Span, number: u32, status: u32) -> u16
-    ensures { Size result (responses_bytes number status (optional_part src.now certificate)) }
-{
-    around(around(around(response_content_size(src, certificate, number, status))))
-}
-
+#[tactic(auto, unfolding(encoding::specs::Message::content_bytes))]
 pub(crate) fn content_size(src: &[u8], g: GivenSpans, kind: u8, c: OutgoingContents) -> u16
     ensures { Size result (content_bytes (given_of src.now g) kind c) }
 {
-    if kind == P10CR {
-        return part_size(src, g.request);
+    match kind {
+        P10CR => part_size(src, g.request),
+        _ if is_enrolment_kind(kind) => requests_size(src, g.request),
+        _ if is_response(kind) => responses_size(src, g.certificate, c.number, c.status),
+        ERROR => error_size(c.status, c.failure),
+        CERT_CONF => confirmations_size(c.hash, c.number, c.status),
+        _ => null_size(),
     }
-    if is_enrolment_kind(kind) {
-        return around(part_size(src, g.request));
-    }
-    if is_response(kind) {
-        return responses_size(src, g.certificate, c.number, c.status);
-    }
-    own_content_size(kind, c)
 }

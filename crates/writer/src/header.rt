@@ -9,13 +9,13 @@ ghost use Rattle.given.specs.Spans.{given_of};
 ghost use Rattle.writer.specs.Code.{header_content};
 
 use crate::element::{
-    field_size, integer_size, octets_size, part_size, put_field, put_integer, put_octets, put_part,
+    field_size, integer_size, nested_size, part_size, put_field, put_integer, put_nested, put_part,
     put_wrapped, wrapped_size,
 };
 use crate::put::head;
 use crate::size::sum;
 use given::GivenSpans;
-use protocol::{Nonce, Outgoing, TransactionId};
+use protocol::Outgoing;
 
 // pvno, sender, recipient
 fn put_names(buf: &mut [u8], at: usize, src: &[u8], g: GivenSpans) -> usize
@@ -55,61 +55,35 @@ fn options_size(src: &[u8], g: GivenSpans) -> u16
     sum(time, sum(alg, sum(sender, recip)))
 }
 
-// A nonce in its explicit tag.
-fn put_nonce(buf: &mut [u8], at: usize, tag: u8, n: Nonce) -> usize
-    ensures { Puts at result (field tag 0x04 (some n.bytes)) buf.old buf.new }
-{
-    let bytes = n.bytes;
-    put_octets(buf, at, tag, &bytes)
-}
-
-fn nonce_size(n: Nonce) -> u16
-    ensures { (tag : ℕ) → Size result (field tag 0x04 (some n.bytes)) }
-{
-    let bytes = n.bytes;
-    octets_size(&bytes)
-}
-
-// transactionID
-fn put_id(buf: &mut [u8], at: usize, id: TransactionId) -> usize
-    ensures { Puts at result (field 0xA4 0x04 (some id.bytes)) buf.old buf.new }
-{
-    let bytes = id.bytes;
-    put_octets(buf, at, 0xA4, &bytes)
-}
-
-fn id_size(id: TransactionId) -> u16
-    ensures { Size result (field 0xA4 0x04 (some id.bytes)) }
-{
-    let bytes = id.bytes;
-    octets_size(&bytes)
-}
-
 // recipNonce, where the order has one
+#[tactic(auto, unfolding(encoding::specs::Element::field))]
 fn put_recip_nonce(buf: &mut [u8], at: usize, o: Outgoing) -> usize
     ensures { Puts at result (field 0xA6 0x04 (recip_nonce o)) buf.old buf.new }
 {
     if o.has_recip_nonce {
-        return put_nonce(buf, at, 0xA6, o.recip_nonce);
+        put_nested(buf, at, 0xA6, 0x04, &o.recip_nonce.bytes)
+    } else {
+        at
     }
-    at
 }
 
+#[tactic(auto, unfolding(encoding::specs::Element::field))]
 fn recip_nonce_size(o: Outgoing) -> u16
     ensures { Size result (field 0xA6 0x04 (recip_nonce o)) }
 {
     if o.has_recip_nonce {
-        return nonce_size(o.recip_nonce);
+        nested_size(&o.recip_nonce.bytes)
+    } else {
+        0
     }
-    0
 }
 
 // transactionID, senderNonce, recipNonce, freeText, generalInfo
 fn put_ids(buf: &mut [u8], at: usize, src: &[u8], g: GivenSpans, o: Outgoing) -> usize
     ensures { Puts at result (ids_bytes (given_of src.now g) o) buf.old buf.new }
 {
-    let a = put_id(buf, at, o.id);
-    let b = put_nonce(buf, a, 0xA5, o.sender_nonce);
+    let a = put_nested(buf, at, 0xA4, 0x04, &o.id.bytes);
+    let b = put_nested(buf, a, 0xA5, 0x04, &o.sender_nonce.bytes);
     let c = put_recip_nonce(buf, b, o);
     let d = put_wrapped(buf, c, 0xA7, src, g.free_text);
     put_wrapped(buf, d, 0xA8, src, g.general_info)
@@ -118,8 +92,8 @@ fn put_ids(buf: &mut [u8], at: usize, src: &[u8], g: GivenSpans, o: Outgoing) ->
 fn ids_size(src: &[u8], g: GivenSpans, o: Outgoing) -> u16
     ensures { Size result (ids_bytes (given_of src.now g) o) }
 {
-    let id = id_size(o.id);
-    let sender = nonce_size(o.sender_nonce);
+    let id = nested_size(&o.id.bytes);
+    let sender = nested_size(&o.sender_nonce.bytes);
     let recip = recip_nonce_size(o);
     let text = wrapped_size(src, g.free_text);
     let info = wrapped_size(src, g.general_info);
@@ -138,8 +112,7 @@ pub(crate) fn header_content_size(src: &[u8], g: GivenSpans, o: Outgoing) -> u16
 pub(crate) fn put_header(buf: &mut [u8], at: usize, src: &[u8], g: GivenSpans, o: Outgoing) -> usize
     ensures { Puts at result (header_bytes (given_of src.now g) o) buf.old buf.new }
 {
-    let n = header_content_size(src, g, o);
-    let a = head(buf, at, 0x30, n);
+    let a = head(buf, at, 0x30, header_content_size(src, g, o));
     let b = put_names(buf, a, src, g);
     let c = put_options(buf, b, src, g);
     put_ids(buf, c, src, g, o)

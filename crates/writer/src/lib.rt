@@ -38,10 +38,9 @@ fn body_tag(kind: u8) -> u8
 fn put_body(buf: &mut [u8], at: usize, src: &[u8], g: GivenSpans, o: Outgoing) -> usize
     ensures { o.kind < 96 → Puts at result (body_bytes (given_of src.now g) o) buf.old buf.new }
 {
-    let kind = o.kind;
-    let n = content_size(src, g, kind, o.contents);
-    let a = head(buf, at, body_tag(kind), n);
-    put_content(buf, a, src, g, kind, o.contents)
+    let n = content_size(src, g, o.kind, o.contents);
+    let a = head(buf, at, body_tag(o.kind), n);
+    put_content(buf, a, src, g, o.kind, o.contents)
 }
 
 fn message_content_size(src: &[u8], g: GivenSpans, o: Outgoing) -> u16
@@ -63,28 +62,21 @@ fn put_message(buf: &mut [u8], src: &[u8], g: GivenSpans, o: Outgoing) -> usize
     put_field(buf, c, 0xA0, 0x03, src, g.protection)
 }
 
-// A size as a number to compare with lengths.
-fn wide(n: u16) -> usize
-    ensures { (result ≡ n) × (result < 65536) }
-{
-    n as usize
-}
-
 // Writes the order and what is given as the buffer's first bytes. Refused, with nothing changed: by 34 where the message would be over the limit,
 // 35 where the buffer is too short, 36 where a part or the order does not fit.
 pub fn write(o: Outgoing, g: GivenSpans, src: &[u8], buf: &mut [u8]) -> Written
     ensures { (result ≡ write_answer src.now g o buf.old) × (buf.new ≡ buffer_after src.now g o buf.old) }
 {
-    let n = wide(around(message_content_size(src, g, o)));
+    let n = usize::from(around(message_content_size(src, g, o)));
     if MAX_MESSAGE < n {
         return Err(34);
     }
     if buf.len() < n {
         return Err(35);
     }
-    if all_fit(src, g, o) {
-        put_message(buf, src, g, o);
-        return Ok(n);
+    if !all_fit(src, g, o) {
+        return Err(36);
     }
-    Err(36)
+    put_message(buf, src, g, o);
+    Ok(n)
 }

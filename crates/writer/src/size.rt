@@ -2,33 +2,25 @@
 ghost use Rattle.std.specs.Prelude.{◌≡◌, ◌+◌};
 ghost use Rattle.writer.specs.Sizes.{size16, head_size, Size};
 
-const LARGEST: u16 = 65535;
-
 pub(crate) fn sum(a: u16, b: u16) -> u16
     ensures { result ≡ size16 (a + b) }
 {
-    if LARGEST - a < b { LARGEST } else { a + b }
+    a.saturating_add(b)
 }
 
 // Of an element around so many bytes.
 pub(crate) fn around(len: u16) -> u16
     ensures { result ≡ size16 (len + head_size len) }
 {
-    if len < 128 {
-        return len + 2;
+    match len {
+        0..=127 => len + 2,
+        128..=255 => len + 3,
+        _ => sum(len, 4),
     }
-    if len < 256 {
-        return len + 3;
-    }
-    sum(len, 4)
 }
 
 pub(crate) fn size(part: &[u8]) -> u16
     ensures { Size result part.now }
 {
-    let n = part.len();
-    if n < 65535 {
-        return n as u16;
-    }
-    LARGEST
+    u16::try_from(part.len()).unwrap_or(u16::MAX)
 }

@@ -6,16 +6,16 @@ use Rattle.writer.proofs.write.Goals as goal
 
 pub returns-then-n-gt-MAX_MESSAGE : goal.returns-then-n-gt-MAX_MESSAGE
 returns-then-n-gt-MAX_MESSAGE c =
-    over _ _ _ _ (message-size _ _ c.message_content_size.ensures c.around.ensures c.wide-n.ensures.0) c.if-n-gt-MAX_MESSAGE.true
+    over _ _ _ _ (message-size _ _ c.message_content_size.ensures c.around.ensures c.from-n.ensures) c.if-n-gt-MAX_MESSAGE.true
 
 pub returns-then-buf-n : goal.returns-then-buf-n
 returns-then-buf-n c =
-    short _ _ _ _ (message-size _ _ c.message_content_size.ensures c.around.ensures c.wide-n.ensures.0) (omega arith) (omega arith)
-
-pub returns-then-all_fit : goal.returns-then-all_fit
-returns-then-all_fit c =
-    written _ _ _ _ (message-size _ _ c.message_content_size.ensures c.around.ensures c.wide-n.ensures.0) (omega arith) (omega arith) (told c.all_fit.ensures c.if-all_fit.true) c.put_message.ensures
+    short _ _ _ _ (message-size _ _ c.message_content_size.ensures c.around.ensures c.from-n.ensures) (omega arith) (omega arith)
 
 pub returns : goal.returns
 returns c =
-    unfit _ _ _ _ (message-size _ _ c.message_content_size.ensures c.around.ensures c.wide-n.ensures.0) (omega arith) (omega arith) (told c.all_fit.ensures c.if-all_fit.false)
+    written _ _ _ _ (message-size _ _ c.message_content_size.ensures c.around.ensures c.from-n.ensures) (omega arith) (omega arith) (told c.all_fit.ensures c.if-not-all_fit.false) c.put_message.ensures
+
+pub returns-then-not-all_fit : goal.returns-then-not-all_fit
+returns-then-not-all_fit c =
+    unfit _ _ _ _ (message-size _ _ c.message_content_size.ensures c.around.ensures c.from-n.ensures) (omega arith) (omega arith) (told c.all_fit.ensures c.if-not-all_fit.true)

@@ -1,21 +1,10 @@
-use mathlib.Core.Path.{refl, ◌∙◌}
-use native.Mathlib.Omega.{arith}
-use Rattle.der.proofs.Auto.{tests}
-use Rattle.given.proofs.FitsLaws.{blank_no, blank-yes, blank-end}
+-- Each byte's test.
+use Rattle.std.proofs.Common.{◌∙◌, eqb, rules, tests}
+use Rattle.std.proofs.lemmas.Iterator.{YieldsList-from_slice}
+use Rattle.std.proofs.lemmas.Iterator.Search.{all_from_yields_List}
+use Rattle.given.proofs.FitsLaws.{blank-all}
 use Rattle.given.proofs.fits.blank.Goals as goal
-
-pub loop-i-init : goal.loop-i-init
-loop-i-init c =
-    (omega arith, refl)
-
-pub returns-then-x-i-ne0 : goal.returns-then-x-i-ne0
-returns-then-x-i-ne0 c =
-    let l = c in cc (l.loop-i.invariant.1, blank_no l.args.x.now l.loop-i.i (omega arith) (search tests))
-
-pub loop-i-preserved : goal.loop-i-preserved
-loop-i-preserved c =
-    let l = c in (omega arith, l.loop-i.invariant.1 ∙ blank-yes l.args.x.now l.loop-i.i (omega arith) (search tests))
 
 pub returns : goal.returns
 returns c =
-    let l = c in cc (l.loop-i.invariant.1, blank-end l.args.x.now l.loop-i.i (omega arith))
+    let x = c.args.x.now in all_from_yields_List (λ b. eqb b 0) _ _ _ c.all.ensures.ran (YieldsList-from_slice x cc) (λ x b q k. search (rules, tests)) ∙ blank-all x

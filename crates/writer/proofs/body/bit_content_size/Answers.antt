@@ -5,4 +5,4 @@ use Rattle.writer.proofs.body.bit_content_size.Goals as goal
 
 pub returns : goal.returns
 returns c =
-    bit-content-size _ (search rules)
+    rw c.from.ensures (bit-content-size _ (search rules))

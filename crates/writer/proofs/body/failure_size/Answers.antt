@@ -1,12 +1,7 @@
--- Nothing where there is none.
-use Rattle.writer.proofs.Sizes.{size_none, size-around}
+-- Around the bit.
 use Rattle.encoding.specs.Element.{optional}
+use Rattle.writer.proofs.Sizes.{size-around}
 use Rattle.writer.proofs.body.failure_size.Goals as goal
-
-pub returns-in-None : goal.returns-in-None
-unfolding optional
-returns-in-None c =
-    rw c.in-None.is size_none
 
 pub returns-in-Some : goal.returns-in-Some
 unfolding optional

@@ -10,4 +10,4 @@ use Rattle.writer.proofs.body.put_bit.Goals as goal
 pub returns : goal.returns
 unfolding bit_content
 returns c =
-    around _ c.bit_content_size.ensures c.head-a.ensures (c.byte-b.ensures then (rw (bit_byte c.args.bit (search rules)) at c.put_zeros-c.ensures) then puts_byte (shifted _ (omega arith)) c.byte.ensures)
+    around _ c.bit_content_size.ensures c.head-a.ensures (c.bytes-b.ensures then (rw (bit_byte c.args.bit (search rules)) at c.put_zeros-c.ensures) then puts_byte (shifted _ (omega arith)) c.bytes.ensures)

@@ -1,11 +1,7 @@
 -- Zeros of an array.
-use Rattle.writer.proofs.Bits.{zeros-put, zeros-size}
+use Rattle.writer.proofs.Bits.{zeros-put}
 use Rattle.writer.proofs.body.put_zeros.Goals as goal
-
-pub slice_bounds-bytes-end : goal.slice_bounds-bytes-end
-slice_bounds-bytes-end c =
-    zeros-size _
 
 pub returns : goal.returns
 returns c =
-    zeros-put c.args.n c.bytes.ensures
+    zeros-put c.args.n (rw c.from.ensures at c.bytes.ensures)

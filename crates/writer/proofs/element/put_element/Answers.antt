@@ -4,4 +4,4 @@ use Rattle.writer.proofs.element.put_element.Goals as goal
 
 pub returns : goal.returns
 returns c =
-    around _ c.size-n.ensures c.head-a.ensures c.bytes.ensures
+    around _ c.size.ensures c.head-a.ensures c.bytes.ensures

@@ -7,4 +7,4 @@ use Rattle.writer.proofs.element.put_nested.Goals as goal
 pub returns : goal.returns
 unfolding field
 returns c =
-    around _ (size-last (size-around _ c.size.ensures c.around-n.ensures)) c.head-a.ensures (last c.put_element.ensures)
+    around _ (size-last (size-around _ c.size.ensures c.around.ensures)) c.head-a.ensures (last c.put_element.ensures)

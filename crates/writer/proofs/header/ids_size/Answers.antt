@@ -6,4 +6,4 @@ use Rattle.writer.proofs.header.ids_size.Goals as goal
 pub returns : goal.returns
 unfolding ids_bytes
 returns c =
-    size_then c.id_size-id.ensures (size_then (c.nonce_size-sender.ensures _) (size_then c.recip_nonce_size-recip.ensures (size_then (c.wrapped_size-text.ensures _) (size-last (c.wrapped_size-info.ensures _)) c.sum.ensures) c.sum-2.ensures) c.sum-3.ensures) c.sum-4.ensures
+    size_then (c.nested_size-id.ensures _ _) (size_then (c.nested_size-sender.ensures _ _) (size_then c.recip_nonce_size-recip.ensures (size_then (c.wrapped_size-text.ensures _) (size-last (c.wrapped_size-info.ensures _)) c.sum.ensures) c.sum-2.ensures) c.sum-3.ensures) c.sum-4.ensures

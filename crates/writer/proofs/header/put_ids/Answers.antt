@@ -6,4 +6,4 @@ use Rattle.writer.proofs.header.put_ids.Goals as goal
 pub returns : goal.returns
 unfolding ids_bytes
 returns c =
-    c.put_id-a.ensures then c.put_nonce-b.ensures then c.put_recip_nonce-c.ensures then c.put_wrapped-d.ensures then last c.put_wrapped.ensures
+    c.put_nested-a.ensures then c.put_nested-b.ensures then c.put_recip_nonce-c.ensures then c.put_wrapped-d.ensures then last c.put_wrapped.ensures
