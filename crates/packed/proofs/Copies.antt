@@ -1,15 +1,15 @@
--- Copies as a loop makes them, one element further: into an array from its start, and into lent bytes from an offset.
+-- An array filled by a loop, one element further, and parts put into lent bytes.
 use Prim.Native.Nat.{ℕ, suc, ◌+◌, ◌<◌, ◌≤◌}
 use mathlib.Core.List.{List, [], ◌∷◌, ◌++◌, append-nil, append_assoc}
 use mathlib.Core.Bool.{true, false}
-use mathlib.Core.Path.{◌≡◌, sym, ◌∙◌, ap}
+use mathlib.Core.Path.{◌≡◌, refl, sym, ◌∙◌, ap}
 use native.Mathlib.Numerals.{add-one}
 use native.Mathlib.Nat.{add-zero, suc-add, add-suc, le_of_lt, le_antisymm}
 use native.Mathlib.Omega.{arith}
 use borrow.Author.Tests.{le-leb, lt-leb}
 use borrow.Rule.Slice.PartMut.{put_mid}
 use lib.ListN.{length, take, drop, set, get_or, drop_of_length-le, length-append}
-use lib.Seq.{sets, length-sets, set_at, length-take-le, drop-drop, drop-cons, append_snoc, take-suc, take_all, sets-eq}
+use lib.Seq.{sets, set_at, length-take-le, drop-drop, drop-cons, append_snoc, take-suc, sets-eq}
 use Rattle.packed.specs.Bytes.{Placed, fits_at, pack_at}
 
 module _ {ℓ} {A : Type ℓ} where
@@ -28,10 +28,6 @@ module _ {ℓ} {A : Type ℓ} where
   sets_append l i (x ∷ xs) ys =
       sets_append (set l i x) (suc i) xs ys ∙ ap (λ (k : ℕ). sets (sets (set l i x) (suc i) xs) k ys) (suc-add i (length xs) ∙ sym (add-suc i (length xs)))
 
-  put_one : (l x : List A) (at i : ℕ) (d : A) → i < length x → set (sets l at (take i x)) (at + i) (get_or x i d) ≡ sets l at (take (i + 1) x)
-  put_one l x at i d h =
-      rw (add-one i, take-suc x i d h, sets_append l at (take i x) (get_or x i d ∷ []), length-take-le i x (le_of_lt h))
-
 -- ## An array of n that was z, whose first i elements are those of p
 
 pub record Filled {A : Type 0} (n : ℕ) (p z x : List A) (i : ℕ) : Type 0 where
@@ -45,28 +41,18 @@ module _ {A : Type 0} {n : ℕ} {p z x : List A} {i : ℕ} (f : Filled n p z x i
   pub fill_all : n ≤ i → x ≡ take n p
   fill_all k = f.is ∙ rw (le_antisymm f.below k) (full p z n (omega arith))
 
--- ## The bytes s with an array of n at an offset, of which the first i are put in
-
-pub record Put (n at : ℕ) (x s₀ s : List ℕ) (i : ℕ) : Type 0 where
-  pub below : i ≤ n
-  pub is : s ≡ sets s₀ at (take i x)
-
-module _ {n at : ℕ} {x s₀ s : List ℕ} {i : ℕ} (p : Put n at x s₀ s i) where
-  pub put-length : length s ≡ length s₀
-  put-length = ap length p.is ∙ length-sets s₀ at (take i x)
-
-  pub put-more : length x ≡ n → i < n → Put n at x s₀ (set s (at + i) (get_or x i 0)) (i + 1)
-  put-more sized k = record { below = omega arith; is = rw p.is (put_one s₀ x at i 0 (omega arith)) }
-
-  pub put_all : length x ≡ n → n ≤ i → Placed at n x s₀ s
-  put_all sized k = record { is = p.is ∙ ap (sets s₀ at) (take_all i x (omega arith)); size = sized }
+-- ## Parts put in
 
 -- what a copy into a part of the bytes leaves
 pub copied : {at n k : ℕ} {x y s : List ℕ} → at + n ≤ length s → k ≡ n → length x ≡ n → y ≡ x → Placed at n x s (put_mid at k s y)
 copied {at} {n} {k} {x} {y} {s} h e l is = record { is = rw (is, e, sets-eq x s at (omega arith), l, drop-drop n at s) (sym (append_assoc (take at s) x (drop (at + n) s))); size = l }
 
-pub placed_length : {at n : ℕ} {x s s' : List ℕ} → Placed at n x s s' → length s' ≡ length s
-placed_length {at} {n} {x} {s} p = ap length p.is ∙ length-sets s at x
+-- one byte, and one that a call answered
+pub one : {at v : ℕ} {s : List ℕ} → Placed at 1 (v ∷ []) s (set s at v)
+one = record { is = refl; size = refl }
+
+pub one_of : {at v w : ℕ} {s : List ℕ} → v ≡ w → Placed at 1 (w ∷ []) s (set s at v)
+one_of e = rw e one
 
 -- one part put in after another
 pub next : {at n b m : ℕ} {x y s₀ s₁ s₂ : List ℕ} → Placed at n x s₀ s₁ → at + n ≡ b → Placed b m y s₁ s₂ → Placed at (n + m) (x ++ y) s₀ s₂

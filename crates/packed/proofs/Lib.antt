@@ -2,6 +2,7 @@ pub mod AnswerInverse
 pub mod Copies
 pub mod EnrolmentInverse
 pub mod FieldLaws
+pub mod Numbers
 pub mod OutgoingInverse
 pub mod Parts
 pub mod Rows

@@ -1,14 +1,15 @@
 // An enrolment in lent bytes.
-ghost use Rattle.std.specs.Prelude.{◌≡◌, ◌≤◌, eqb, length};
+ghost use Rattle.std.specs.Prelude.{◌≡◌, ◌≤◌, cond, eqb, ltb, length, Some, None};
 ghost use Rattle.packed.specs.Bytes.{Placed};
-ghost use Rattle.packed.specs.Enrolment.{enrolment_state_number, enrolment_state_of, enrolment_bytes, pack_enrolment, enrolment_of, unpack_enrolment, pack_enrolment_in};
+ghost use Rattle.packed.specs.Enrolment.{enrolment_state_number, enrolment_state_of, enrolment_bytes, pack_enrolment, unpack_enrolment, pack_enrolment_in};
 
-use crate::bytes::{get, put, put_1};
+use crate::bytes::{get, put};
 use crate::places;
 use protocol::{Enrolment, EnrolmentState, Hash, Nonce, TransactionId};
 
 pub const ENROLMENT_BYTES: usize = places::ENROLMENT_END;
 
+// No `From` for a state, nor `TryFrom` of one: the type is protocol's.
 fn state_number(s: EnrolmentState) -> u8
     ensures { result ≡ enrolment_state_number s }
 {
@@ -23,37 +24,19 @@ fn state_number(s: EnrolmentState) -> u8
     }
 }
 
-fn state_of(n: u8) -> EnrolmentState
-    ensures { result ≡ enrolment_state_of n }
+#[tactic(auto, unfolding(crate::specs::Enrolment::enrolment_state_of))]
+fn state_of(n: u8) -> Option<EnrolmentState>
+    ensures { result ≡ cond (ltb n 7) (Some (enrolment_state_of n)) None }
 {
     match n {
-        0 => EnrolmentState::Asked,
-        1 => EnrolmentState::Confirming,
-        2 => EnrolmentState::Declining,
-        3 => EnrolmentState::Sure,
-        4 => EnrolmentState::Declined,
-        5 => EnrolmentState::Failed,
-        _ => EnrolmentState::Unsettled,
-    }
-}
-
-fn get_enrolment(bytes: &[u8]) -> Enrolment
-    requires { enrolment_bytes ≤ length bytes.now }
-    ensures { result ≡ enrolment_of bytes.now }
-{
-    let id = get(bytes, places::ENROLMENT_ID);
-    let kind = bytes[places::ENROLMENT_KIND];
-    let last = get(bytes, places::ENROLMENT_LAST);
-    let taken = get(bytes, places::ENROLMENT_TAKEN);
-    let hash = get(bytes, places::ENROLMENT_HASH);
-    let state = state_of(bytes[places::ENROLMENT_STATE]);
-    Enrolment {
-        id: TransactionId { bytes: id },
-        kind,
-        last: Nonce { bytes: last },
-        taken: Nonce { bytes: taken },
-        hash: Hash { bytes: hash },
-        state,
+        0 => Some(EnrolmentState::Asked),
+        1 => Some(EnrolmentState::Confirming),
+        2 => Some(EnrolmentState::Declining),
+        3 => Some(EnrolmentState::Sure),
+        4 => Some(EnrolmentState::Declined),
+        5 => Some(EnrolmentState::Failed),
+        6 => Some(EnrolmentState::Unsettled),
+        _ => None,
     }
 }
 
@@ -61,11 +44,26 @@ fn get_enrolment(bytes: &[u8]) -> Enrolment
 pub fn unpack_enrolment(bytes: &[u8]) -> Option<Enrolment>
     ensures { result ≡ unpack_enrolment bytes.now }
 {
-    if bytes.len() == ENROLMENT_BYTES && bytes[places::ENROLMENT_STATE] < 7 {
-        Some(get_enrolment(bytes))
-    } else {
-        None
+    if bytes.len() != ENROLMENT_BYTES {
+        return None;
     }
+    let state = state_of(bytes[places::ENROLMENT_STATE])?;
+    Some(Enrolment {
+        id: TransactionId {
+            bytes: get(bytes, places::ENROLMENT_ID),
+        },
+        kind: bytes[places::ENROLMENT_KIND],
+        last: Nonce {
+            bytes: get(bytes, places::ENROLMENT_LAST),
+        },
+        taken: Nonce {
+            bytes: get(bytes, places::ENROLMENT_TAKEN),
+        },
+        hash: Hash {
+            bytes: get(bytes, places::ENROLMENT_HASH),
+        },
+        state,
+    })
 }
 
 fn put_enrolment(bytes: &mut [u8], x: Enrolment)
@@ -73,11 +71,11 @@ fn put_enrolment(bytes: &mut [u8], x: Enrolment)
     ensures { Placed 0 enrolment_bytes (pack_enrolment x) bytes.old bytes.new }
 {
     put(bytes, places::ENROLMENT_ID, &x.id.bytes);
-    put_1(bytes, places::ENROLMENT_KIND, x.kind);
+    bytes[places::ENROLMENT_KIND] = x.kind;
     put(bytes, places::ENROLMENT_LAST, &x.last.bytes);
     put(bytes, places::ENROLMENT_TAKEN, &x.taken.bytes);
     put(bytes, places::ENROLMENT_HASH, &x.hash.bytes);
-    put_1(bytes, places::ENROLMENT_STATE, state_number(x.state));
+    bytes[places::ENROLMENT_STATE] = state_number(x.state);
 }
 
 // The enrolment as bytes. False, with nothing changed, where `bytes` is not exactly as long as one.

@@ -4,7 +4,7 @@ ghost use Rattle.packed.specs.Bytes.{Placed};
 ghost use Rattle.packed.specs.Places.{outgoing_contents_at, contents_part_bytes};
 ghost use Rattle.packed.specs.Outgoing.{failure_number, failure_of, outgoing_bytes, pack_names, pack_contents, pack_outgoing, outgoing_contents_of, outgoing_of, unpack_outgoing};
 
-use crate::bytes::{get, get_4, get_flag, put, put_1, put_4, put_flag};
+use crate::bytes::{get, get_flag, put, put_flag};
 use crate::places;
 use protocol::{FailureInfo, Hash, Nonce, Outgoing, OutgoingContents, TransactionId};
 
@@ -13,10 +13,7 @@ pub const OUTGOING_BYTES: usize = places::OUTGOING_END;
 pub(crate) fn failure_number(f: FailureInfo) -> u8
     ensures { result ≡ failure_number f }
 {
-    match f {
-        None => 255,
-        Some(b) => b,
-    }
+    f.unwrap_or(255)
 }
 
 // Kind, id and nonces.
@@ -24,7 +21,7 @@ fn put_names(bytes: &mut [u8], at: usize, o: Outgoing)
     requires { at + outgoing_contents_at ≤ length bytes.old }
     ensures { Placed at outgoing_contents_at (pack_names o) bytes.old bytes.new }
 {
-    put_1(bytes, at, o.kind);
+    bytes[at] = o.kind;
     put(bytes, at + places::OUTGOING_ID, &o.id.bytes);
     put(
         bytes,
@@ -49,15 +46,11 @@ fn put_contents(bytes: &mut [u8], at: usize, c: OutgoingContents)
     ensures { Placed (at + outgoing_contents_at) contents_part_bytes (pack_contents c) bytes.old bytes.new }
 {
     put_flag(bytes, at + places::OUTGOING_HAS_STATUS, c.has_status);
-    put_4(bytes, at + places::OUTGOING_STATUS, c.status);
+    put(bytes, at + places::OUTGOING_STATUS, &c.status.to_be_bytes());
     put(bytes, at + places::OUTGOING_HASH, &c.hash.bytes);
-    put_1(
-        bytes,
-        at + places::OUTGOING_FAILURE,
-        failure_number(c.failure),
-    );
+    bytes[at + places::OUTGOING_FAILURE] = failure_number(c.failure);
     put_flag(bytes, at + places::OUTGOING_HAS_NUMBER, c.has_number);
-    put_4(bytes, at + places::OUTGOING_NUMBER, c.number);
+    put(bytes, at + places::OUTGOING_NUMBER, &c.number.to_be_bytes());
 }
 
 // The message as bytes from an offset on.
@@ -72,10 +65,7 @@ pub(crate) fn put_outgoing(bytes: &mut [u8], at: usize, o: Outgoing)
 fn failure_of(n: u8) -> FailureInfo
     ensures { result ≡ failure_of n }
 {
-    if n == 255 {
-        return None;
-    }
-    Some(n)
+    (n != 255).then_some(n)
 }
 
 // What only some kinds carry, of the message that the bytes hold.
@@ -83,19 +73,15 @@ fn get_contents(bytes: &[u8]) -> OutgoingContents
     requires { outgoing_bytes ≤ length bytes.now }
     ensures { result ≡ outgoing_contents_of bytes.now }
 {
-    let has_status = get_flag(bytes, places::OUTGOING_HAS_STATUS);
-    let status = get_4(bytes, places::OUTGOING_STATUS);
-    let hash = get(bytes, places::OUTGOING_HASH);
-    let failure = failure_of(bytes[places::OUTGOING_FAILURE]);
-    let has_number = get_flag(bytes, places::OUTGOING_HAS_NUMBER);
-    let number = get_4(bytes, places::OUTGOING_NUMBER);
     OutgoingContents {
-        has_status,
-        status,
-        hash: Hash { bytes: hash },
-        failure,
-        has_number,
-        number,
+        has_status: get_flag(bytes, places::OUTGOING_HAS_STATUS),
+        status: u32::from_be_bytes(get(bytes, places::OUTGOING_STATUS)),
+        hash: Hash {
+            bytes: get(bytes, places::OUTGOING_HASH),
+        },
+        failure: failure_of(bytes[places::OUTGOING_FAILURE]),
+        has_number: get_flag(bytes, places::OUTGOING_HAS_NUMBER),
+        number: u32::from_be_bytes(get(bytes, places::OUTGOING_NUMBER)),
     }
 }
 
@@ -103,19 +89,19 @@ fn get_outgoing(bytes: &[u8]) -> Outgoing
     requires { outgoing_bytes ≤ length bytes.now }
     ensures { result ≡ outgoing_of bytes.now }
 {
-    let kind = bytes[places::OUTGOING_KIND];
-    let id = get(bytes, places::OUTGOING_ID);
-    let sender = get(bytes, places::OUTGOING_SENDER_NONCE);
-    let has_recip_nonce = get_flag(bytes, places::OUTGOING_HAS_RECIP_NONCE);
-    let recip = get(bytes, places::OUTGOING_RECIP_NONCE);
-    let contents = get_contents(bytes);
     Outgoing {
-        kind,
-        id: TransactionId { bytes: id },
-        sender_nonce: Nonce { bytes: sender },
-        has_recip_nonce,
-        recip_nonce: Nonce { bytes: recip },
-        contents,
+        kind: bytes[places::OUTGOING_KIND],
+        id: TransactionId {
+            bytes: get(bytes, places::OUTGOING_ID),
+        },
+        sender_nonce: Nonce {
+            bytes: get(bytes, places::OUTGOING_SENDER_NONCE),
+        },
+        has_recip_nonce: get_flag(bytes, places::OUTGOING_HAS_RECIP_NONCE),
+        recip_nonce: Nonce {
+            bytes: get(bytes, places::OUTGOING_RECIP_NONCE),
+        },
+        contents: get_contents(bytes),
     }
 }
 

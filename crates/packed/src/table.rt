@@ -1,11 +1,11 @@
 // The transaction table in lent bytes.
-ghost use Rattle.std.specs.Prelude.{◌≡◌, ◌+◌, ◌≤◌, eqb, length, drop};
+ghost use Rattle.std.specs.Prelude.{◌≡◌, ◌+◌, ◌≤◌, cond, eqb, ltb, length, get_or, Some, None};
 ghost use Rattle.protocol.specs.Table.{capacity};
 ghost use Rattle.packed.specs.Bytes.{Placed};
-ghost use Rattle.packed.specs.Places.{transaction_taken_at, progress_part_bytes};
+ghost use Rattle.packed.specs.Places.{transaction_taken_at, transaction_state_at, progress_part_bytes};
 ghost use Rattle.packed.specs.Table.{transaction_state_number, transaction_state_of, transaction_bytes, pack_request, pack_progress, pack_transaction, transaction_of, table_bytes, pack_rows, states_good, table_of, unpack_table, pack_table_in};
 
-use crate::bytes::{get, get_2, put, put_1, put_2};
+use crate::bytes::{get, put};
 use crate::places;
 use protocol::{
     Board, Hash, Nonce, Transaction, TransactionId, TransactionState, TransactionTable,
@@ -15,6 +15,7 @@ pub const TRANSACTION_BYTES: usize = places::TRANSACTION_END;
 
 pub const TABLE_BYTES: usize = TransactionTable::CAPACITY * TRANSACTION_BYTES;
 
+// No `From` for a state, nor `TryFrom` of one: the type is protocol's.
 fn state_number(s: TransactionState) -> u8
     ensures { result ≡ transaction_state_number s }
 {
@@ -29,40 +30,45 @@ fn state_number(s: TransactionState) -> u8
     }
 }
 
-fn state_of(n: u8) -> TransactionState
-    ensures { result ≡ transaction_state_of n }
+#[tactic(auto, unfolding(crate::specs::Table::transaction_state_of))]
+fn state_of(n: u8) -> Option<TransactionState>
+    ensures { result ≡ cond (ltb n 7) (Some (transaction_state_of n)) None }
 {
     match n {
-        0 => TransactionState::Free,
-        1 => TransactionState::Asked,
-        2 => TransactionState::Granted,
-        3 => TransactionState::Confirmed,
-        4 => TransactionState::Declined,
-        5 => TransactionState::Refused,
-        _ => TransactionState::Lapsed,
+        0 => Some(TransactionState::Free),
+        1 => Some(TransactionState::Asked),
+        2 => Some(TransactionState::Granted),
+        3 => Some(TransactionState::Confirmed),
+        4 => Some(TransactionState::Declined),
+        5 => Some(TransactionState::Refused),
+        6 => Some(TransactionState::Lapsed),
+        _ => None,
     }
 }
 
-fn get_transaction(bytes: &[u8], at: usize) -> Transaction
-    requires { at + transaction_bytes ≤ length bytes.now }
-    ensures { result ≡ transaction_of (drop at bytes.now) }
+// The transaction that the first bytes hold, where the state byte is a state.
+fn get_transaction(bytes: &[u8]) -> Option<Transaction>
+    requires { transaction_bytes ≤ length bytes.now }
+    ensures { result ≡ cond (ltb (get_or bytes.now transaction_state_at 0) 7) (Some (transaction_of bytes.now)) None }
 {
-    let id = get(bytes, at);
-    let board = get_2(bytes, at + places::TRANSACTION_BOARD);
-    let kind = bytes[at + places::TRANSACTION_KIND];
-    let taken = get(bytes, at + places::TRANSACTION_TAKEN);
-    let sent = get(bytes, at + places::TRANSACTION_SENT);
-    let hash = get(bytes, at + places::TRANSACTION_HASH);
-    let state = state_of(bytes[at + places::TRANSACTION_STATE]);
-    Transaction {
-        id: TransactionId { bytes: id },
-        board: Board(board),
-        kind,
-        taken: Nonce { bytes: taken },
-        sent: Nonce { bytes: sent },
-        hash: Hash { bytes: hash },
+    let state = state_of(bytes[places::TRANSACTION_STATE])?;
+    Some(Transaction {
+        id: TransactionId {
+            bytes: get(bytes, places::TRANSACTION_ID),
+        },
+        board: Board(u16::from_be_bytes(get(bytes, places::TRANSACTION_BOARD))),
+        kind: bytes[places::TRANSACTION_KIND],
+        taken: Nonce {
+            bytes: get(bytes, places::TRANSACTION_TAKEN),
+        },
+        sent: Nonce {
+            bytes: get(bytes, places::TRANSACTION_SENT),
+        },
+        hash: Hash {
+            bytes: get(bytes, places::TRANSACTION_HASH),
+        },
         state,
-    }
+    })
 }
 
 // Id, board and kind.
@@ -71,8 +77,12 @@ fn put_request(bytes: &mut [u8], at: usize, t: Transaction)
     ensures { Placed at transaction_taken_at (pack_request t) bytes.old bytes.new }
 {
     put(bytes, at, &t.id.bytes);
-    put_2(bytes, at + places::TRANSACTION_BOARD, t.board.0);
-    put_1(bytes, at + places::TRANSACTION_KIND, t.kind);
+    put(
+        bytes,
+        at + places::TRANSACTION_BOARD,
+        &t.board.0.to_be_bytes(),
+    );
+    bytes[at + places::TRANSACTION_KIND] = t.kind;
 }
 
 // Nonces, hash and state, of the transaction that starts at the offset.
@@ -83,7 +93,7 @@ fn put_progress(bytes: &mut [u8], at: usize, t: Transaction)
     put(bytes, at + places::TRANSACTION_TAKEN, &t.taken.bytes);
     put(bytes, at + places::TRANSACTION_SENT, &t.sent.bytes);
     put(bytes, at + places::TRANSACTION_HASH, &t.hash.bytes);
-    put_1(bytes, at + places::TRANSACTION_STATE, state_number(t.state));
+    bytes[at + places::TRANSACTION_STATE] = state_number(t.state);
 }
 
 fn put_transaction(bytes: &mut [u8], at: usize, t: Transaction)
@@ -94,60 +104,34 @@ fn put_transaction(bytes: &mut [u8], at: usize, t: Transaction)
     put_progress(bytes, at, t);
 }
 
-// Whether each state byte is a state.
-fn states_good(bytes: &[u8]) -> bool
+// The table that the bytes hold, where each state byte is a state.
+fn get_table(bytes: &[u8]) -> Option<TransactionTable>
     requires { table_bytes ≤ length bytes.now }
-    ensures { result ≡ states_good capacity bytes.now }
+    ensures { result ≡ cond (states_good capacity bytes.now) (Some (table_of bytes.now)) None }
 {
-    let mut i: usize = 0;
-    let mut at: usize = 0;
-    while i < TransactionTable::CAPACITY {
-        if bytes[at + places::TRANSACTION_STATE] >= 7 {
-            return false;
-        }
-        i += 1;
-        at += TRANSACTION_BYTES;
+    let mut table = TransactionTable::empty();
+    for i in 0..TransactionTable::CAPACITY {
+        table.transactions[i] = get_transaction(&bytes[i * TRANSACTION_BYTES..])?;
     }
-    true
-}
-
-fn get_table(bytes: &[u8]) -> TransactionTable
-    requires { table_bytes ≤ length bytes.now }
-    ensures { result ≡ table_of bytes.now }
-{
-    let empty = TransactionTable::empty();
-    let mut rows = empty.transactions;
-    let mut i: usize = 0;
-    let mut at: usize = 0;
-    while i < TransactionTable::CAPACITY {
-        rows[i] = get_transaction(bytes, at);
-        i += 1;
-        at += TRANSACTION_BYTES;
-    }
-    TransactionTable { transactions: rows }
+    Some(table)
 }
 
 // The table that `bytes` holds, where they are exactly as long as one and every state byte is a state.
 pub fn unpack_table(bytes: &[u8]) -> Option<TransactionTable>
     ensures { result ≡ unpack_table bytes.now }
 {
-    if bytes.len() == TABLE_BYTES && states_good(bytes) {
-        Some(get_table(bytes))
-    } else {
-        None
+    if bytes.len() != TABLE_BYTES {
+        return None;
     }
+    get_table(bytes)
 }
 
-fn put_rows(bytes: &mut [u8], rows: [Transaction; TransactionTable::CAPACITY])
+fn put_rows(bytes: &mut [u8], rows: &[Transaction; TransactionTable::CAPACITY])
     requires { table_bytes ≤ length bytes.old }
-    ensures { Placed 0 table_bytes (pack_rows rows) bytes.old bytes.new }
+    ensures { Placed 0 table_bytes (pack_rows rows.now) bytes.old bytes.new }
 {
-    let mut i: usize = 0;
-    let mut at: usize = 0;
-    while i < TransactionTable::CAPACITY {
-        put_transaction(bytes, at, rows[i]);
-        i += 1;
-        at += TRANSACTION_BYTES;
+    for (i, row) in rows.iter().enumerate() {
+        put_transaction(bytes, i * TRANSACTION_BYTES, *row);
     }
 }
 
@@ -156,8 +140,7 @@ pub fn pack_table(bytes: &mut [u8], table: TransactionTable) -> bool
     ensures { (result ≡ eqb (length bytes.old) table_bytes) × (bytes.new ≡ pack_table_in table bytes.old) }
 {
     if bytes.len() == TABLE_BYTES {
-        let rows = table.transactions;
-        put_rows(bytes, rows);
+        put_rows(bytes, &table.transactions);
         true
     } else {
         false

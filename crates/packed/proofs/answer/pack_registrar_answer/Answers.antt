@@ -2,7 +2,7 @@
 use mathlib.Core.Path.{refl}
 use native.Mathlib.Omega.{arith}
 use Rattle.packed.specs.Answer.{pack_registrar_answer}
-use Rattle.packed.proofs.Copies.{next, no_room, room}
+use Rattle.packed.proofs.Copies.{next, one_of, no_room, room}
 use Rattle.packed.proofs.answer.pack_registrar_answer.Goals as goal
 
 pub returns-then-bytes-lt-REGISTRAR_ANSWER_BYTES : goal.returns-then-bytes-lt-REGISTRAR_ANSWER_BYTES
@@ -13,13 +13,8 @@ returns-then-bytes-lt-REGISTRAR_ANSWER_BYTES c =
 pub returns : goal.returns
 unfolding pack_registrar_answer
 returns c =
-    let outgoing = c in
-    let sends = outgoing in
-    let slot = sends in
-    let fault = slot in
-    let outcome = fault in
     room (omega arith) (
-    next outcome.put_outcome.ensures refl (
-    next fault.put_fault.ensures refl (
-    next (rw slot.slot_byte.ensures at slot.put_1.ensures) refl (
-    next sends.put_flag.ensures refl outgoing.put_outgoing.ensures))))
+    next c.put_outcome.ensures refl (
+    next c.put_fault.ensures refl (
+    next (one_of c.slot_byte.ensures) refl (
+    next c.put_flag.ensures refl c.put_outgoing.ensures))))
