@@ -1,5 +1,5 @@
 -- An array filled by a loop, one element further, and parts put into lent bytes.
-use Prim.Native.Nat.{ℕ, suc, ◌+◌, ◌<◌, ◌≤◌}
+use Prim.Native.Nat.{ℕ, suc, ◌+◌, ◌-◌, ◌<◌, ◌≤◌}
 use mathlib.Core.List.{List, [], ◌∷◌, ◌++◌, append-nil, append_assoc}
 use mathlib.Core.Bool.{true, false}
 use mathlib.Core.Path.{◌≡◌, refl, sym, ◌∙◌, ap}
@@ -8,8 +8,9 @@ use native.Mathlib.Nat.{add-zero, suc-add, add-suc, le_of_lt, le_antisymm}
 use native.Mathlib.Omega.{arith}
 use borrow.Author.Tests.{le-leb, lt-leb}
 use borrow.Rule.Slice.PartMut.{put_mid}
-use lib.ListN.{length, take, drop, set, get_or, drop_of_length-le, length-append}
+use lib.ListN.{length, take, drop, set, get_or, drop_of_length-le, length-append, length-drop}
 use lib.Seq.{sets, set_at, length-take-le, drop-drop, drop-cons, append_snoc, take-suc, sets-eq}
+use Rattle.std.proofs.lemmas.List.{take_rest}
 use Rattle.packed.specs.Bytes.{Placed, fits_at, pack_at}
 
 module _ {ℓ} {A : Type ℓ} where
@@ -46,6 +47,16 @@ module _ {A : Type 0} {n : ℕ} {p z x : List A} {i : ℕ} (f : Filled n p z x i
 -- what a copy into a part of the bytes leaves
 pub copied : {at n k : ℕ} {x y s : List ℕ} → at + n ≤ length s → k ≡ n → length x ≡ n → y ≡ x → Placed at n x s (put_mid at k s y)
 copied {at} {n} {k} {x} {y} {s} h e l is = record { is = rw (is, e, sets-eq x s at (omega arith), l, drop-drop n at s) (sym (append_assoc (take at s) x (drop (at + n) s))); size = l }
+
+-- what a call put at the start of their end
+pub inside : {a n : ℕ} {x y s : List ℕ} → a + n ≤ length s → Placed 0 n x (take (length s - a) (drop a s)) y → Placed a n x s (put_mid a (length s - a) s y)
+inside {a} {n} {x} {y} {s} h p =
+    let at : y ≡ sets (drop a s) 0 x = rw (take_rest s a) at p.is in
+    let z : 0 + length x ≡ length x = omega arith in
+    let there : y ≡ x ++ drop (length x) (drop a s) = at ∙ rw z at (sets-eq x (drop a s) 0 (omega (arith, length-drop a s, p.size))) in
+    let end : drop (length s - a) (drop a s) ≡ [] = drop-drop (length s - a) a s ∙ drop_of_length-le s (omega arith) in
+    let whole : sets s a x ≡ take a s ++ (x ++ drop (a + length x) s) = sets-eq x s a (omega (arith, p.size)) ∙ append_assoc (take a s) x (drop (a + length x) s) in
+    record { is = rw (there, end, whole, drop-drop (length x) a s) (ap (λ (l : List ℕ). take a s ++ l) (append-nil _)); size = p.size }
 
 -- one byte, and one that a call answered
 pub one : {at v : ℕ} {s : List ℕ} → Placed at 1 (v ∷ []) s (set s at v)

@@ -77,7 +77,7 @@ pub fn pack_registrar_answer(bytes: &mut [u8], a: RegistrarAnswer) -> bool
     put_fault(bytes, a.fault);
     bytes[places::REGISTRAR_SLOT] = slot_byte(a.slot);
     put_flag(bytes, places::REGISTRAR_SENDS, a.sends);
-    put_outgoing(bytes, places::REGISTRAR_OUTGOING, a.outgoing);
+    put_outgoing(&mut bytes[places::REGISTRAR_OUTGOING..], a.outgoing);
     true
 }
 
@@ -91,6 +91,6 @@ pub fn pack_end_entity_answer(bytes: &mut [u8], a: EndEntityAnswer) -> bool
     put_outcome(bytes, a.outcome);
     put_fault(bytes, a.fault);
     put_flag(bytes, places::END_ENTITY_SENDS, a.sends);
-    put_outgoing(bytes, places::END_ENTITY_OUTGOING, a.outgoing);
+    put_outgoing(&mut bytes[places::END_ENTITY_OUTGOING..], a.outgoing);
     true
 }

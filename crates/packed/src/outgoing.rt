@@ -1,5 +1,5 @@
 // A message to be sent, in lent bytes.
-ghost use Rattle.std.specs.Prelude.{◌≡◌, ◌+◌, ◌≤◌, length};
+ghost use Rattle.std.specs.Prelude.{◌≡◌, ◌≤◌, length};
 ghost use Rattle.packed.specs.Bytes.{Placed};
 ghost use Rattle.packed.specs.Places.{outgoing_contents_at, contents_part_bytes};
 ghost use Rattle.packed.specs.Outgoing.{failure_number, failure_of, outgoing_bytes, pack_names, pack_contents, pack_outgoing, outgoing_contents_of, outgoing_of, unpack_outgoing};
@@ -17,49 +17,37 @@ pub(crate) fn failure_number(f: FailureInfo) -> u8
 }
 
 // Kind, id and nonces.
-fn put_names(bytes: &mut [u8], at: usize, o: Outgoing)
-    requires { at + outgoing_contents_at ≤ length bytes.old }
-    ensures { Placed at outgoing_contents_at (pack_names o) bytes.old bytes.new }
+fn put_names(bytes: &mut [u8], o: Outgoing)
+    requires { outgoing_bytes ≤ length bytes.old }
+    ensures { Placed 0 outgoing_contents_at (pack_names o) bytes.old bytes.new }
 {
-    bytes[at] = o.kind;
-    put(bytes, at + places::OUTGOING_ID, &o.id.bytes);
-    put(
-        bytes,
-        at + places::OUTGOING_SENDER_NONCE,
-        &o.sender_nonce.bytes,
-    );
-    put_flag(
-        bytes,
-        at + places::OUTGOING_HAS_RECIP_NONCE,
-        o.has_recip_nonce,
-    );
-    put(
-        bytes,
-        at + places::OUTGOING_RECIP_NONCE,
-        &o.recip_nonce.bytes,
-    );
+    bytes[places::OUTGOING_KIND] = o.kind;
+    put(bytes, places::OUTGOING_ID, &o.id.bytes);
+    put(bytes, places::OUTGOING_SENDER_NONCE, &o.sender_nonce.bytes);
+    put_flag(bytes, places::OUTGOING_HAS_RECIP_NONCE, o.has_recip_nonce);
+    put(bytes, places::OUTGOING_RECIP_NONCE, &o.recip_nonce.bytes);
 }
 
-// What only some kinds carry, of the message that starts at the offset.
-fn put_contents(bytes: &mut [u8], at: usize, c: OutgoingContents)
-    requires { at + outgoing_bytes ≤ length bytes.old }
-    ensures { Placed (at + outgoing_contents_at) contents_part_bytes (pack_contents c) bytes.old bytes.new }
+// What only some kinds carry.
+fn put_contents(bytes: &mut [u8], c: OutgoingContents)
+    requires { outgoing_bytes ≤ length bytes.old }
+    ensures { Placed outgoing_contents_at contents_part_bytes (pack_contents c) bytes.old bytes.new }
 {
-    put_flag(bytes, at + places::OUTGOING_HAS_STATUS, c.has_status);
-    put(bytes, at + places::OUTGOING_STATUS, &c.status.to_be_bytes());
-    put(bytes, at + places::OUTGOING_HASH, &c.hash.bytes);
-    bytes[at + places::OUTGOING_FAILURE] = failure_number(c.failure);
-    put_flag(bytes, at + places::OUTGOING_HAS_NUMBER, c.has_number);
-    put(bytes, at + places::OUTGOING_NUMBER, &c.number.to_be_bytes());
+    put_flag(bytes, places::OUTGOING_HAS_STATUS, c.has_status);
+    put(bytes, places::OUTGOING_STATUS, &c.status.to_be_bytes());
+    put(bytes, places::OUTGOING_HASH, &c.hash.bytes);
+    bytes[places::OUTGOING_FAILURE] = failure_number(c.failure);
+    put_flag(bytes, places::OUTGOING_HAS_NUMBER, c.has_number);
+    put(bytes, places::OUTGOING_NUMBER, &c.number.to_be_bytes());
 }
 
-// The message as bytes from an offset on.
-pub(crate) fn put_outgoing(bytes: &mut [u8], at: usize, o: Outgoing)
-    requires { at + outgoing_bytes ≤ length bytes.old }
-    ensures { Placed at outgoing_bytes (pack_outgoing o) bytes.old bytes.new }
+// The message as the first bytes.
+pub(crate) fn put_outgoing(bytes: &mut [u8], o: Outgoing)
+    requires { outgoing_bytes ≤ length bytes.old }
+    ensures { Placed 0 outgoing_bytes (pack_outgoing o) bytes.old bytes.new }
 {
-    put_names(bytes, at, o);
-    put_contents(bytes, at, o.contents);
+    put_names(bytes, o);
+    put_contents(bytes, o.contents);
 }
 
 fn failure_of(n: u8) -> FailureInfo

@@ -1,5 +1,5 @@
 // The transaction table in lent bytes.
-ghost use Rattle.std.specs.Prelude.{◌≡◌, ◌+◌, ◌≤◌, cond, eqb, ltb, length, get_or, Some, None};
+ghost use Rattle.std.specs.Prelude.{◌≡◌, ◌≤◌, cond, eqb, ltb, length, get_or, Some, None};
 ghost use Rattle.protocol.specs.Table.{capacity};
 ghost use Rattle.packed.specs.Bytes.{Placed};
 ghost use Rattle.packed.specs.Places.{transaction_taken_at, transaction_state_at, progress_part_bytes};
@@ -72,36 +72,33 @@ fn get_transaction(bytes: &[u8]) -> Option<Transaction>
 }
 
 // Id, board and kind.
-fn put_request(bytes: &mut [u8], at: usize, t: Transaction)
-    requires { at + transaction_bytes ≤ length bytes.old }
-    ensures { Placed at transaction_taken_at (pack_request t) bytes.old bytes.new }
+fn put_request(bytes: &mut [u8], t: Transaction)
+    requires { transaction_bytes ≤ length bytes.old }
+    ensures { Placed 0 transaction_taken_at (pack_request t) bytes.old bytes.new }
 {
-    put(bytes, at, &t.id.bytes);
-    put(
-        bytes,
-        at + places::TRANSACTION_BOARD,
-        &t.board.0.to_be_bytes(),
-    );
-    bytes[at + places::TRANSACTION_KIND] = t.kind;
+    put(bytes, places::TRANSACTION_ID, &t.id.bytes);
+    put(bytes, places::TRANSACTION_BOARD, &t.board.0.to_be_bytes());
+    bytes[places::TRANSACTION_KIND] = t.kind;
 }
 
-// Nonces, hash and state, of the transaction that starts at the offset.
-fn put_progress(bytes: &mut [u8], at: usize, t: Transaction)
-    requires { at + transaction_bytes ≤ length bytes.old }
-    ensures { Placed (at + transaction_taken_at) progress_part_bytes (pack_progress t) bytes.old bytes.new }
+// Nonces, hash and state.
+fn put_progress(bytes: &mut [u8], t: Transaction)
+    requires { transaction_bytes ≤ length bytes.old }
+    ensures { Placed transaction_taken_at progress_part_bytes (pack_progress t) bytes.old bytes.new }
 {
-    put(bytes, at + places::TRANSACTION_TAKEN, &t.taken.bytes);
-    put(bytes, at + places::TRANSACTION_SENT, &t.sent.bytes);
-    put(bytes, at + places::TRANSACTION_HASH, &t.hash.bytes);
-    bytes[at + places::TRANSACTION_STATE] = state_number(t.state);
+    put(bytes, places::TRANSACTION_TAKEN, &t.taken.bytes);
+    put(bytes, places::TRANSACTION_SENT, &t.sent.bytes);
+    put(bytes, places::TRANSACTION_HASH, &t.hash.bytes);
+    bytes[places::TRANSACTION_STATE] = state_number(t.state);
 }
 
-fn put_transaction(bytes: &mut [u8], at: usize, t: Transaction)
-    requires { at + transaction_bytes ≤ length bytes.old }
-    ensures { Placed at transaction_bytes (pack_transaction t) bytes.old bytes.new }
+// The transaction as the first bytes.
+fn put_transaction(bytes: &mut [u8], t: Transaction)
+    requires { transaction_bytes ≤ length bytes.old }
+    ensures { Placed 0 transaction_bytes (pack_transaction t) bytes.old bytes.new }
 {
-    put_request(bytes, at, t);
-    put_progress(bytes, at, t);
+    put_request(bytes, t);
+    put_progress(bytes, t);
 }
 
 // The table that the bytes hold, where each state byte is a state.
@@ -131,7 +128,7 @@ fn put_rows(bytes: &mut [u8], rows: &[Transaction; TransactionTable::CAPACITY])
     ensures { Placed 0 table_bytes (pack_rows rows.now) bytes.old bytes.new }
 {
     for (i, row) in rows.iter().enumerate() {
-        put_transaction(bytes, i * TRANSACTION_BYTES, *row);
+        put_transaction(&mut bytes[i * TRANSACTION_BYTES..], *row);
     }
 }
 

@@ -2,7 +2,7 @@
 use mathlib.Core.Path.{refl}
 use native.Mathlib.Omega.{arith}
 use Rattle.packed.specs.Answer.{pack_end_entity_answer}
-use Rattle.packed.proofs.Copies.{next, no_room, room}
+use Rattle.packed.proofs.Copies.{inside, next, no_room, room}
 use Rattle.packed.proofs.answer.pack_end_entity_answer.Goals as goal
 
 pub returns-then-bytes-lt-END_ENTITY_ANSWER_BYTES : goal.returns-then-bytes-lt-END_ENTITY_ANSWER_BYTES
@@ -20,4 +20,4 @@ returns c =
     room (omega arith) (
     next outcome.put_outcome.ensures refl (
     next fault.put_fault.ensures refl (
-    next sends.put_flag.ensures refl outgoing.put_outgoing.ensures)))
+    next sends.put_flag.ensures refl (inside (omega arith) outgoing.put_outgoing.ensures))))

@@ -1,5 +1,5 @@
 -- The parts are put in one after the other.
-use native.Mathlib.Omega.{arith}
+use mathlib.Core.Path.{refl}
 use borrow.Author.Rules.{rules}
 use Rattle.packed.specs.Outgoing.{pack_contents}
 use Rattle.packed.proofs.Copies.{next, one_of}
@@ -11,8 +11,8 @@ unfolding pack_contents
 returns c =
     let status = four_put {n = c.args.c.status} (search rules) c.to_be_bytes.ensures c.put.ensures in
     let number = four_put {n = c.args.c.number} (search rules) c.to_be_bytes-2.ensures c.put-3.ensures in
-    next c.put_flag.ensures (omega arith) (
-    next status (omega arith) (
-    next c.put-2.ensures (omega arith) (
-    next (one_of c.failure_number.ensures) (omega arith) (
-    next c.put_flag-2.ensures (omega arith) number))))
+    next c.put_flag.ensures refl (
+    next status refl (
+    next c.put-2.ensures refl (
+    next (one_of c.failure_number.ensures) refl (
+    next c.put_flag-2.ensures refl number))))

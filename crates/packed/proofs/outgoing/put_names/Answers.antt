@@ -1,5 +1,5 @@
 -- The parts are put in one after the other.
-use native.Mathlib.Omega.{arith}
+use mathlib.Core.Path.{refl}
 use Rattle.packed.specs.Outgoing.{pack_names}
 use Rattle.packed.proofs.Copies.{next, one}
 use Rattle.packed.proofs.outgoing.put_names.Goals as goal
@@ -7,7 +7,7 @@ use Rattle.packed.proofs.outgoing.put_names.Goals as goal
 pub returns : goal.returns
 unfolding pack_names
 returns c =
-    next one (omega arith) (
-    next c.put.ensures (omega arith) (
-    next c.put-2.ensures (omega arith) (
-    next c.put_flag.ensures (omega arith) c.put-3.ensures)))
+    next one refl (
+    next c.put.ensures refl (
+    next c.put-2.ensures refl (
+    next c.put_flag.ensures refl c.put-3.ensures)))

@@ -1,5 +1,5 @@
 -- The parts are put in one after the other.
-use native.Mathlib.Omega.{arith}
+use mathlib.Core.Path.{refl}
 use borrow.Author.Rules.{rules}
 use Rattle.packed.specs.Table.{pack_request}
 use Rattle.packed.proofs.Copies.{next, one}
@@ -10,4 +10,4 @@ pub returns : goal.returns
 unfolding pack_request
 returns c =
     let board = two_put {n = c.args.t.board.0} (search rules) c.to_be_bytes.ensures c.put-2.ensures in
-    next c.put.ensures (omega arith) (next board (omega arith) one)
+    next c.put.ensures refl (next board refl one)
