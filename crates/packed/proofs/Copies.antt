@@ -1,13 +1,14 @@
 -- An array filled by a loop, one element further, and parts put into lent bytes.
 use Prim.Native.Nat.{ℕ, suc, ◌+◌, ◌-◌, ◌<◌, ◌≤◌}
 use mathlib.Core.List.{List, [], ◌∷◌, ◌++◌, append-nil, append_assoc}
-use mathlib.Core.Bool.{true, false}
+use mathlib.Core.Bool.{true, false, cond}
 use mathlib.Core.Path.{◌≡◌, refl, sym, ◌∙◌, ap}
 use native.Mathlib.Numerals.{add-one}
 use native.Mathlib.Nat.{add-zero, suc-add, add-suc, le_of_lt, le_antisymm}
 use native.Mathlib.Omega.{arith}
-use borrow.Author.Tests.{le-leb, lt-leb}
+use borrow.Author.Tests.{le-leb, lt-leb, eq-eqb}
 use borrow.Rule.Slice.PartMut.{put_mid}
+use lib.Dec.{eqb}
 use lib.ListN.{length, take, drop, set, get_or, drop_of_length-le, length-append, length-drop}
 use lib.Seq.{sets, set_at, length-take-le, drop-drop, drop-cons, append_snoc, take-suc, sets-eq}
 use Rattle.std.proofs.lemmas.List.{take_rest}
@@ -73,11 +74,12 @@ next {at} {n} {b} {m} {x} {y} {s₀} p e q =
       size = length-append x y ∙ rw (p.size, q.size);
     }
 
--- all that there was is replaced
-pub whole : {n : ℕ} {x s s' : List ℕ} → Placed 0 n x s s' → length s ≡ n → s' ≡ x
-whole {n} {x} {s} p e =
+-- all that there was is replaced, where it is as long
+pub replaced : {n : ℕ} {x s s' : List ℕ} → Placed 0 n x s s' → length s ≡ n → (true ≡ eqb (length s) n) × (s' ≡ cond (eqb (length s) n) x s)
+replaced {n} {x} {s} p e =
     let h : length s ≤ 0 + length x = omega (arith, p.size) in
-    p.is ∙ sets-eq x s 0 (omega (arith, p.size)) ∙ rw (drop_of_length-le s h) (append-nil x)
+    let size : eqb (length s) n ≡ true = eq-eqb _ _ e in
+    (sym size, rw size (p.is ∙ sets-eq x s 0 (omega (arith, p.size)) ∙ rw (drop_of_length-le s h) (append-nil x)))
 
 -- ## An answer: whether there was room, and the bytes after it
 

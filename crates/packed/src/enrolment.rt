@@ -41,6 +41,7 @@ fn state_of(n: u8) -> Option<EnrolmentState>
 }
 
 // The enrolment that `bytes` holds, where they are exactly as long as one and the state byte is a state.
+#[tactic(auto, unfolding(crate::specs::Enrolment::unpack_enrolment, crate::specs::Enrolment::enrolment_of))]
 pub fn unpack_enrolment(bytes: &[u8]) -> Option<Enrolment>
     ensures { result ≡ unpack_enrolment bytes.now }
 {
@@ -79,6 +80,7 @@ fn put_enrolment(bytes: &mut [u8], x: Enrolment)
 }
 
 // The enrolment as bytes. False, with nothing changed, where `bytes` is not exactly as long as one.
+#[tactic(auto, unfolding(crate::specs::Enrolment::pack_enrolment_in))]
 pub fn pack_enrolment(bytes: &mut [u8], enrolment: Enrolment) -> bool
     ensures { (result ≡ eqb (length bytes.old) enrolment_bytes) × (bytes.new ≡ pack_enrolment_in enrolment bytes.old) }
 {

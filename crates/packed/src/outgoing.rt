@@ -73,6 +73,7 @@ fn get_contents(bytes: &[u8]) -> OutgoingContents
     }
 }
 
+#[tactic(auto, unfolding(crate::specs::Outgoing::outgoing_of))]
 fn get_outgoing(bytes: &[u8]) -> Outgoing
     requires { outgoing_bytes ≤ length bytes.now }
     ensures { result ≡ outgoing_of bytes.now }

@@ -114,6 +114,7 @@ fn get_table(bytes: &[u8]) -> Option<TransactionTable>
 }
 
 // The table that `bytes` holds, where they are exactly as long as one and every state byte is a state.
+#[tactic(auto, unfolding(crate::specs::Table::unpack_table))]
 pub fn unpack_table(bytes: &[u8]) -> Option<TransactionTable>
     ensures { result ≡ unpack_table bytes.now }
 {
@@ -133,6 +134,7 @@ fn put_rows(bytes: &mut [u8], rows: &[Transaction; TransactionTable::CAPACITY])
 }
 
 // The table as bytes. False, with nothing changed, where `bytes` is not exactly as long as one.
+#[tactic(auto, unfolding(crate::specs::Table::pack_table_in))]
 pub fn pack_table(bytes: &mut [u8], table: TransactionTable) -> bool
     ensures { (result ≡ eqb (length bytes.old) table_bytes) × (bytes.new ≡ pack_table_in table bytes.old) }
 {
