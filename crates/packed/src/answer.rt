@@ -24,6 +24,7 @@ fn outcome_number(o: Outcome) -> u8
     }
 }
 
+// 0 where it was not refused: so the bytes say.
 fn refusal_number(o: Outcome) -> u8
     ensures { result ≡ refusal_number o }
 {
@@ -33,6 +34,7 @@ fn refusal_number(o: Outcome) -> u8
     }
 }
 
+// 255: no bit.
 fn refusal_bit(o: Outcome) -> u8
     ensures { result ≡ refusal_bit o }
 {
@@ -60,6 +62,7 @@ fn put_fault(bytes: &mut [u8], f: ReadFault)
     bytes[places::ANSWER_RULE] = f.rule;
 }
 
+// 255 stands for all past it, which no table has.
 fn slot_byte(s: Slot) -> u8
     ensures { result ≡ slot_byte s.0 }
 {
