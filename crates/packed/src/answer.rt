@@ -1,8 +1,8 @@
 // An answer in lent bytes: how the call ended, the reader's fault, the slot, and what is to be sent.
 ghost use Rattle.std.specs.Prelude.{◌≡◌, ◌≤◌, length};
 ghost use Rattle.packed.specs.Bytes.{Placed, fits_at, pack_at};
-ghost use Rattle.packed.specs.Places.{answer_code_at, answer_fault_at, answer_own_at, fault_part_bytes};
-ghost use Rattle.packed.specs.Answer.{outcome_number, refusal_number, refusal_bit, pack_outcome, pack_fault, slot_byte, registrar_answer_bytes, pack_registrar_answer, end_entity_answer_bytes, pack_end_entity_answer};
+ghost use Rattle.packed.specs.Places.{answer_fault_at, answer_own_at, fault_part_bytes};
+ghost use Rattle.packed.specs.Answer.{pack_outcome, pack_fault, slot_byte, registrar_answer_bytes, pack_registrar_answer, end_entity_answer_bytes, pack_end_entity_answer};
 
 use crate::bytes::{put, put_flag};
 use crate::outgoing::{failure_number, put_outgoing};
@@ -14,43 +14,16 @@ pub const REGISTRAR_ANSWER_BYTES: usize = places::REGISTRAR_END;
 
 pub const END_ENTITY_ANSWER_BYTES: usize = places::END_ENTITY_END;
 
-fn outcome_number(o: Outcome) -> u8
-    ensures { result ≡ outcome_number o }
+// How the call ended: its code, the refusal's number, 0 where there is none, and the bit, 255 where there is none.
+#[tactic(auto, unfolding(crate::specs::Answer::pack_outcome))]
+fn outcome_bytes(o: Outcome) -> [u8; 3]
+    ensures { result ≡ pack_outcome o }
 {
     match o {
-        Outcome::Done => 0,
-        Outcome::Again => 1,
-        Outcome::Refused(_, _) => 2,
+        Outcome::Done => [0, 0, 255],
+        Outcome::Again => [1, 0, 255],
+        Outcome::Refused(n, f) => [2, n, failure_number(f)],
     }
-}
-
-// 0 where it was not refused: so the bytes say.
-fn refusal_number(o: Outcome) -> u8
-    ensures { result ≡ refusal_number o }
-{
-    match o {
-        Outcome::Done | Outcome::Again => 0,
-        Outcome::Refused(n, _) => n,
-    }
-}
-
-// 255: no bit.
-fn refusal_bit(o: Outcome) -> u8
-    ensures { result ≡ refusal_bit o }
-{
-    match o {
-        Outcome::Done | Outcome::Again => 255,
-        Outcome::Refused(_, f) => failure_number(f),
-    }
-}
-
-fn put_outcome(bytes: &mut [u8], o: Outcome)
-    requires { answer_fault_at ≤ length bytes.old }
-    ensures { Placed answer_code_at answer_fault_at (pack_outcome o) bytes.old bytes.new }
-{
-    bytes[places::ANSWER_CODE] = outcome_number(o);
-    bytes[places::ANSWER_REFUSAL] = refusal_number(o);
-    bytes[places::ANSWER_BIT] = refusal_bit(o);
 }
 
 fn put_fault(bytes: &mut [u8], f: ReadFault)
@@ -76,7 +49,7 @@ pub fn pack_registrar_answer(bytes: &mut [u8], a: RegistrarAnswer) -> bool
     if bytes.len() < REGISTRAR_ANSWER_BYTES {
         return false;
     }
-    put_outcome(bytes, a.outcome);
+    put(bytes, places::ANSWER_CODE, &outcome_bytes(a.outcome));
     put_fault(bytes, a.fault);
     bytes[places::REGISTRAR_SLOT] = slot_byte(a.slot);
     put_flag(bytes, places::REGISTRAR_SENDS, a.sends);
@@ -91,7 +64,7 @@ pub fn pack_end_entity_answer(bytes: &mut [u8], a: EndEntityAnswer) -> bool
     if bytes.len() < END_ENTITY_ANSWER_BYTES {
         return false;
     }
-    put_outcome(bytes, a.outcome);
+    put(bytes, places::ANSWER_CODE, &outcome_bytes(a.outcome));
     put_fault(bytes, a.fault);
     put_flag(bytes, places::END_ENTITY_SENDS, a.sends);
     put_outgoing(&mut bytes[places::END_ENTITY_OUTGOING..], a.outgoing);

@@ -15,7 +15,7 @@ pub returns : goal.returns
 unfolding pack_registrar_answer
 returns c =
     room (omega arith) (
-    next c.put_outcome.ensures refl (
+    next (rw c.outcome_bytes.ensures at c.put.ensures) refl (
     next c.put_fault.ensures refl (
     next (one_of c.slot_byte.ensures) refl (
     next c.put_flag.ensures refl (inside (omega (arith, length-set c.put_fault.new.bytes 13 c.slot_byte.result)) c.put_outgoing.ensures)))))
