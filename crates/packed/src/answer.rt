@@ -14,7 +14,7 @@ pub const REGISTRAR_ANSWER_BYTES: usize = places::REGISTRAR_END;
 
 pub const END_ENTITY_ANSWER_BYTES: usize = places::END_ENTITY_END;
 
-// How the call ended: its code, the refusal's number, 0 where there is none, and the bit, 255 where there is none.
+// How the call ended, as the C interface has it: the code, the refusal's number (0: none) and the bit (255: none).
 #[tactic(auto, unfolding(crate::specs::Answer::pack_outcome))]
 fn outcome_bytes(o: Outcome) -> [u8; 3]
     ensures { result ≡ pack_outcome o }
@@ -31,6 +31,7 @@ fn put_fault(bytes: &mut [u8], f: ReadFault)
     ensures { Placed answer_fault_at fault_part_bytes (pack_fault f) bytes.old bytes.new }
 {
     bytes[places::ANSWER_FAULT] = f.number;
+    // `as`: std has no `From<usize>` for u64.
     put(bytes, places::ANSWER_OFFSET, &(f.at.0 as u64).to_be_bytes());
     bytes[places::ANSWER_RULE] = f.rule;
 }

@@ -1,4 +1,5 @@
-// Parts of lent bytes: read, and put in. A caller keeps them inside the bytes.
+// Parts of lent bytes: read, and put in. A caller keeps them inside the bytes. The place stays an argument: a slice cut
+// at each call would be no plainer.
 ghost use Rattle.std.specs.Prelude.{◌≡◌, [], ◌∷◌, ◌+◌, ◌≤◌, length};
 ghost use Rattle.packed.specs.Bytes.{part, Placed, flag, flag_at};
 

@@ -10,7 +10,7 @@ use protocol::{FailureInfo, Hash, Nonce, Outgoing, OutgoingContents, Transaction
 
 pub const OUTGOING_BYTES: usize = places::OUTGOING_END;
 
-// A PKIFailureInfo bit in its byte; 255: none.
+// A PKIFailureInfo bit as the C interface has it; 255: none.
 pub(crate) fn failure_number(f: FailureInfo) -> u8
     ensures { result ≡ failure_number f }
 {
