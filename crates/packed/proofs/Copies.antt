@@ -1,14 +1,17 @@
--- Copies as a loop makes them, one element further: into an array from its start, and into lent bytes from an offset.
-use Prim.Native.Nat.{ℕ, suc, ◌+◌, ◌<◌, ◌≤◌}
-use mathlib.Core.List.{List, [], ◌∷◌, ◌++◌, append-nil}
-use mathlib.Core.Bool.{true, false}
-use mathlib.Core.Path.{◌≡◌, sym, ◌∙◌, ap}
+-- An array filled by a loop, one element further, and parts put into lent bytes.
+use Prim.Native.Nat.{ℕ, suc, ◌+◌, ◌-◌, ◌<◌, ◌≤◌}
+use mathlib.Core.List.{List, [], ◌∷◌, ◌++◌, append-nil, append_assoc}
+use mathlib.Core.Bool.{true, false, cond}
+use mathlib.Core.Path.{◌≡◌, refl, sym, ◌∙◌, ap}
 use native.Mathlib.Numerals.{add-one}
 use native.Mathlib.Nat.{add-zero, suc-add, add-suc, le_of_lt, le_antisymm}
 use native.Mathlib.Omega.{arith}
-use borrow.Author.Tests.{le-leb, lt-leb}
-use lib.ListN.{length, take, drop, set, get_or, drop_of_length-le, length-append}
-use lib.Seq.{sets, length-sets, set_at, length-take-le, drop-cons, append_snoc, take-suc, take_all, sets-eq}
+use borrow.Author.Tests.{le-leb, lt-leb, eq-eqb}
+use borrow.Rule.Slice.PartMut.{put_mid}
+use lib.Dec.{eqb}
+use lib.ListN.{length, take, drop, set, get_or, drop_of_length-le, length-append, length-drop}
+use lib.Seq.{sets, set_at, length-take-le, drop-drop, drop-cons, append_snoc, take-suc, sets-eq}
+use Rattle.std.proofs.lemmas.List.{take_rest}
 use Rattle.packed.specs.Bytes.{Placed, fits_at, pack_at}
 
 module _ {ℓ} {A : Type ℓ} where
@@ -27,10 +30,6 @@ module _ {ℓ} {A : Type ℓ} where
   sets_append l i (x ∷ xs) ys =
       sets_append (set l i x) (suc i) xs ys ∙ ap (λ (k : ℕ). sets (sets (set l i x) (suc i) xs) k ys) (suc-add i (length xs) ∙ sym (add-suc i (length xs)))
 
-  put_one : (l x : List A) (at i : ℕ) (d : A) → i < length x → set (sets l at (take i x)) (at + i) (get_or x i d) ≡ sets l at (take (i + 1) x)
-  put_one l x at i d h =
-      rw (add-one i, take-suc x i d h, sets_append l at (take i x) (get_or x i d ∷ []), length-take-le i x (le_of_lt h))
-
 -- ## An array of n that was z, whose first i elements are those of p
 
 pub record Filled {A : Type 0} (n : ℕ) (p z x : List A) (i : ℕ) : Type 0 where
@@ -44,24 +43,28 @@ module _ {A : Type 0} {n : ℕ} {p z x : List A} {i : ℕ} (f : Filled n p z x i
   pub fill_all : n ≤ i → x ≡ take n p
   fill_all k = f.is ∙ rw (le_antisymm f.below k) (full p z n (omega arith))
 
--- ## The bytes s with an array of n at an offset, of which the first i are put in
+-- ## Parts put in
 
-pub record Put (n at : ℕ) (x s₀ s : List ℕ) (i : ℕ) : Type 0 where
-  pub below : i ≤ n
-  pub is : s ≡ sets s₀ at (take i x)
+-- what a copy into a part of the bytes leaves
+pub copied : {at n k : ℕ} {x y s : List ℕ} → at + n ≤ length s → k ≡ n → length x ≡ n → y ≡ x → Placed at n x s (put_mid at k s y)
+copied {at} {n} {k} {x} {y} {s} h e l is = record { is = rw (is, e, sets-eq x s at (omega arith), l, drop-drop n at s) (sym (append_assoc (take at s) x (drop (at + n) s))); size = l }
 
-module _ {n at : ℕ} {x s₀ s : List ℕ} {i : ℕ} (p : Put n at x s₀ s i) where
-  pub put-length : length s ≡ length s₀
-  put-length = ap length p.is ∙ length-sets s₀ at (take i x)
+-- what a call put at the start of their end
+pub inside : {a n : ℕ} {x y s : List ℕ} → a + n ≤ length s → Placed 0 n x (take (length s - a) (drop a s)) y → Placed a n x s (put_mid a (length s - a) s y)
+inside {a} {n} {x} {y} {s} h p =
+    let at : y ≡ sets (drop a s) 0 x = rw (take_rest s a) at p.is in
+    let z : 0 + length x ≡ length x = omega arith in
+    let there : y ≡ x ++ drop (length x) (drop a s) = at ∙ rw z at (sets-eq x (drop a s) 0 (omega (arith, length-drop a s, p.size))) in
+    let end : drop (length s - a) (drop a s) ≡ [] = drop-drop (length s - a) a s ∙ drop_of_length-le s (omega arith) in
+    let whole : sets s a x ≡ take a s ++ (x ++ drop (a + length x) s) = sets-eq x s a (omega (arith, p.size)) ∙ append_assoc (take a s) x (drop (a + length x) s) in
+    record { is = rw (there, end, whole, drop-drop (length x) a s) (ap (λ (l : List ℕ). take a s ++ l) (append-nil _)); size = p.size }
 
-  pub put-more : length x ≡ n → i < n → Put n at x s₀ (set s (at + i) (get_or x i 0)) (i + 1)
-  put-more sized k = record { below = omega arith; is = rw p.is (put_one s₀ x at i 0 (omega arith)) }
+-- one byte, and one that a call answered
+pub one : {at v : ℕ} {s : List ℕ} → Placed at 1 (v ∷ []) s (set s at v)
+one = record { is = refl; size = refl }
 
-  pub put_all : length x ≡ n → n ≤ i → Placed at n x s₀ s
-  put_all sized k = record { is = p.is ∙ ap (sets s₀ at) (take_all i x (omega arith)); size = sized }
-
-pub placed_length : {at n : ℕ} {x s s' : List ℕ} → Placed at n x s s' → length s' ≡ length s
-placed_length {at} {n} {x} {s} p = ap length p.is ∙ length-sets s at x
+pub one_of : {at v w : ℕ} {s : List ℕ} → v ≡ w → Placed at 1 (w ∷ []) s (set s at v)
+one_of e = rw e one
 
 -- one part put in after another
 pub next : {at n b m : ℕ} {x y s₀ s₁ s₂ : List ℕ} → Placed at n x s₀ s₁ → at + n ≡ b → Placed b m y s₁ s₂ → Placed at (n + m) (x ++ y) s₀ s₂
@@ -71,11 +74,12 @@ next {at} {n} {b} {m} {x} {y} {s₀} p e q =
       size = length-append x y ∙ rw (p.size, q.size);
     }
 
--- all that there was is replaced
-pub whole : {n : ℕ} {x s s' : List ℕ} → Placed 0 n x s s' → length s ≡ n → s' ≡ x
-whole {n} {x} {s} p e =
+-- all that there was is replaced, where it is as long
+pub replaced : {n : ℕ} {x s s' : List ℕ} → Placed 0 n x s s' → length s ≡ n → (true ≡ eqb (length s) n) × (s' ≡ cond (eqb (length s) n) x s)
+replaced {n} {x} {s} p e =
     let h : length s ≤ 0 + length x = omega (arith, p.size) in
-    p.is ∙ sets-eq x s 0 (omega (arith, p.size)) ∙ rw (drop_of_length-le s h) (append-nil x)
+    let size : eqb (length s) n ≡ true = eq-eqb _ _ e in
+    (sym size, rw size (p.is ∙ sets-eq x s 0 (omega (arith, p.size)) ∙ rw (drop_of_length-le s h) (append-nil x)))
 
 -- ## An answer: whether there was room, and the bytes after it
 

@@ -2,9 +2,9 @@ pub mod AnswerInverse
 pub mod Copies
 pub mod EnrolmentInverse
 pub mod FieldLaws
+pub mod Numbers
 pub mod OutgoingInverse
 pub mod Parts
 pub mod Rows
 pub mod TableInverse
 pub mod Tests
-pub mod Unpacked

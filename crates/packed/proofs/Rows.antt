@@ -6,10 +6,9 @@ use mathlib.Core.Path.{◌≡◌, refl, sym, ◌∙◌, ap}
 use native.Mathlib.Numerals.{add-one}
 use native.Mathlib.Nat.{le_antisymm}
 use native.Mathlib.Omega.{arith}
-use borrow.Author.Tests.{lt-ltb, le-ltb}
 use lib.ListN.{length, take, drop, get_or, length-replicate}
 use lib.Dec.{ltb}
-use lib.Seq.{drop-drop, get_or-drop, take-suc, take_all}
+use lib.Seq.{drop-drop, take-suc, take_all}
 use Rattle.protocol.specs.declared.Transaction.{Transaction}
 use Rattle.protocol.specs.declared.TransactionTable.{TransactionTable}
 use Rattle.protocol.specs.Table.{capacity, free_transaction, empty_table}
@@ -39,25 +38,24 @@ empty-length t e = rw e (length-replicate capacity free_transaction)
 
 -- ## State bytes: of n, the first i are states
 
-pub record Checked (n : ℕ) (s : List ℕ) (i at : ℕ) : Type 0 where
+pub record Checked (n : ℕ) (s : List ℕ) (i : ℕ) : Type 0 where
   pub below : i ≤ n
-  pub place : at ≡ i * transaction_bytes
-  pub same : states_good n s ≡ states_good (n - i) (drop at s)
+  pub same : states_good n s ≡ states_good (n - i) (drop (i * transaction_bytes) s)
 
-step : (n i at : ℕ) (s : List ℕ) (b : Bool) → n ≡ suc i → ltb (get_or s (at + transaction_state_at) 0) 7 ≡ b → states_good n (drop at s) ≡ (b && states_good i (drop (at + transaction_bytes) s))
+step : (n i at : ℕ) (s : List ℕ) (b : Bool) → n ≡ suc i → ltb (get_or (drop at s) transaction_state_at 0) 7 ≡ b → states_good n (drop at s) ≡ (b && states_good i (drop (at + transaction_bytes) s))
 unfolding states_good
-step n i at s b e h = rw e (cc (h, get_or-drop at s transaction_state_at 0, drop-drop transaction_bytes at s))
+step n i at s b e h = rw e (cc (h, drop-drop transaction_bytes at s))
 
-module _ {n : ℕ} {s : List ℕ} {i at : ℕ} (c : Checked n s i at) where
-  pub check_no : i < n → 7 ≤ get_or s (at + transaction_state_at) 0 → states_good n s ≡ false
-  check_no k h = c.same ∙ step (n - i) (n - i - 1) at s false (omega arith) (le-ltb _ _ h)
+module _ {n : ℕ} {s : List ℕ} {i : ℕ} (c : Checked n s i) where
+  pub check_no : i < n → ltb (get_or (drop (i * transaction_bytes) s) transaction_state_at 0) 7 ≡ false → states_good n s ≡ false
+  check_no k h = c.same ∙ step (n - i) (n - i - 1) (i * transaction_bytes) s false (omega arith) h
 
-  pub check-more : i < n → get_or s (at + transaction_state_at) 0 < 7 → Checked n s (i + 1) (at + transaction_bytes)
+  pub check-more : i < n → ltb (get_or (drop (i * transaction_bytes) s) transaction_state_at 0) 7 ≡ true → Checked n s (i + 1)
   check-more k h =
+      let next : i * transaction_bytes + transaction_bytes ≡ (i + 1) * transaction_bytes = omega arith in
       record {
         below = omega arith;
-        place = omega arith;
-        same = c.same ∙ step (n - i) (n - (i + 1)) at s true (omega arith) (lt-ltb _ _ h);
+        same = c.same ∙ step (n - i) (n - (i + 1)) (i * transaction_bytes) s true (omega arith) h ∙ ap (λ (k : ℕ). states_good (n - (i + 1)) (drop k s)) next;
       }
 
   pub check_all : n ≤ i → states_good n s ≡ true
@@ -67,26 +65,23 @@ module _ {n : ℕ} {s : List ℕ} {i at : ℕ} (c : Checked n s i at) where
 
 -- ## Rows that are put in: the first i of n
 
-pub record PutRows (n : ℕ) (ts : List Transaction) (s₀ s : List ℕ) (i at : ℕ) : Type 0 where
+pub record PutRows (n : ℕ) (ts : List Transaction) (s₀ s : List ℕ) (i : ℕ) : Type 0 where
   pub below : i ≤ n
-  pub place : at ≡ i * transaction_bytes
-  pub put : Placed 0 at (pack_rows (take i ts)) s₀ s
+  pub put : Placed 0 (i * transaction_bytes) (pack_rows (take i ts)) s₀ s
 
 rows_snoc : (ts : List Transaction) (t : Transaction) → pack_rows (ts ++ (t ∷ [])) ≡ pack_rows ts ++ pack_transaction t
 unfolding pack_rows
 rows_snoc [] t = append-nil (pack_transaction t)
 rows_snoc (x ∷ ts) t = ap (λ (l : List ℕ). pack_transaction x ++ l) (rows_snoc ts t) ∙ sym (append_assoc (pack_transaction x) (pack_rows ts) (pack_transaction t))
 
-module _ {n : ℕ} {ts : List Transaction} {s₀ s : List ℕ} {i at : ℕ} (p : PutRows n ts s₀ s i at) where
-  pub put-row : length ts ≡ n → i < n → (d : Transaction) {s' : List ℕ} → Placed at transaction_bytes (pack_transaction (get_or ts i d)) s s' → PutRows n ts s₀ s' (i + 1) (at + transaction_bytes)
-  put-row sized k d q =
-      record {
-        below = omega arith;
-        place = omega arith;
-        put = rw (add-one i, take-suc ts i d (omega arith), rows_snoc) (next p.put (omega arith) q);
-      }
+module _ {n : ℕ} {ts : List Transaction} {s₀ s : List ℕ} {i : ℕ} (p : PutRows n ts s₀ s i) where
+  pub put-row : length ts ≡ n → i < n → (d : Transaction) {s' : List ℕ} → Placed (i * transaction_bytes) transaction_bytes (pack_transaction (get_or ts i d)) s s' → PutRows n ts s₀ s' (i + 1)
+  put-row sized k d {s' = s'} q =
+      let next_at : i * transaction_bytes + transaction_bytes ≡ (i + 1) * transaction_bytes = omega arith in
+      let more : Placed 0 (i * transaction_bytes + transaction_bytes) (pack_rows (take (i + 1) ts)) s₀ s' = rw (add-one i, take-suc ts i d (omega arith), rows_snoc) (next p.put (omega arith) q) in
+      record { below = omega arith; put = rw next_at at more }
 
   pub put_all_rows : length ts ≡ n → n ≤ i → Placed 0 (n * transaction_bytes) (pack_rows ts) s₀ s
   put_all_rows sized k =
-      let q : Placed 0 (n * transaction_bytes) (pack_rows (take n ts)) s₀ s = rw (le_antisymm p.below k) at (rw p.place at p.put) in
+      let q : Placed 0 (n * transaction_bytes) (pack_rows (take n ts)) s₀ s = rw (le_antisymm p.below k) at p.put in
       rw (take_all n ts (omega arith)) at q

@@ -1,11 +1,11 @@
 // The transaction table in lent bytes.
-ghost use Rattle.std.specs.Prelude.{◌≡◌, ◌+◌, ◌≤◌, eqb, length, drop};
+ghost use Rattle.std.specs.Prelude.{◌≡◌, ◌≤◌, cond, eqb, ltb, length, get_or, Some, None};
 ghost use Rattle.protocol.specs.Table.{capacity};
 ghost use Rattle.packed.specs.Bytes.{Placed};
-ghost use Rattle.packed.specs.Places.{transaction_taken_at, progress_part_bytes};
-ghost use Rattle.packed.specs.Table.{transaction_state_number, transaction_state_of, transaction_bytes, pack_request, pack_progress, pack_transaction, transaction_of, table_bytes, pack_rows, states_good, table_of, no_table, unpack_table, pack_table_in};
+ghost use Rattle.packed.specs.Places.{transaction_taken_at, transaction_state_at, progress_part_bytes};
+ghost use Rattle.packed.specs.Table.{transaction_state_number, transaction_state_of, transaction_bytes, pack_request, pack_progress, pack_transaction, transaction_of, table_bytes, pack_rows, states_good, table_of, unpack_table, pack_table_in};
 
-use crate::bytes::{get_2, get_16, get_32, put_1, put_2, put_16, put_32};
+use crate::bytes::{get, put};
 use crate::places;
 use protocol::{
     Board, Hash, Nonce, Transaction, TransactionId, TransactionState, TransactionTable,
@@ -15,13 +15,7 @@ pub const TRANSACTION_BYTES: usize = places::TRANSACTION_END;
 
 pub const TABLE_BYTES: usize = TransactionTable::CAPACITY * TRANSACTION_BYTES;
 
-// A table from bytes. Where `ok` is false there was none, and the table is the empty one.
-#[derive(Clone, Copy)]
-pub struct UnpackedTable {
-    pub ok: bool,
-    pub table: TransactionTable,
-}
-
+// No `From` for a state, nor `TryFrom` of one: the type is protocol's.
 fn state_number(s: TransactionState) -> u8
     ensures { result ≡ transaction_state_number s }
 {
@@ -36,153 +30,116 @@ fn state_number(s: TransactionState) -> u8
     }
 }
 
-fn state_of(n: u8) -> TransactionState
-    ensures { result ≡ transaction_state_of n }
+#[tactic(auto, unfolding(crate::specs::Table::transaction_state_of))]
+fn state_of(n: u8) -> Option<TransactionState>
+    ensures { result ≡ cond (ltb n 7) (Some (transaction_state_of n)) None }
 {
     match n {
-        0 => TransactionState::Free,
-        1 => TransactionState::Asked,
-        2 => TransactionState::Granted,
-        3 => TransactionState::Confirmed,
-        4 => TransactionState::Declined,
-        5 => TransactionState::Refused,
-        _ => TransactionState::Lapsed,
+        0 => Some(TransactionState::Free),
+        1 => Some(TransactionState::Asked),
+        2 => Some(TransactionState::Granted),
+        3 => Some(TransactionState::Confirmed),
+        4 => Some(TransactionState::Declined),
+        5 => Some(TransactionState::Refused),
+        6 => Some(TransactionState::Lapsed),
+        _ => None,
     }
 }
 
-fn get_transaction(bytes: &[u8], at: usize) -> Transaction
-    requires { at + transaction_bytes ≤ length bytes.now }
-    ensures { result ≡ transaction_of (drop at bytes.now) }
+// The transaction that the first bytes hold, where the state byte is a state.
+fn get_transaction(bytes: &[u8]) -> Option<Transaction>
+    requires { transaction_bytes ≤ length bytes.now }
+    ensures { result ≡ cond (ltb (get_or bytes.now transaction_state_at 0) 7) (Some (transaction_of bytes.now)) None }
 {
-    let id = get_16(bytes, at);
-    let board = get_2(bytes, at + places::TRANSACTION_BOARD);
-    let kind = bytes[at + places::TRANSACTION_KIND];
-    let taken = get_16(bytes, at + places::TRANSACTION_TAKEN);
-    let sent = get_16(bytes, at + places::TRANSACTION_SENT);
-    let hash = get_32(bytes, at + places::TRANSACTION_HASH);
-    let state = state_of(bytes[at + places::TRANSACTION_STATE]);
-    Transaction {
-        id: TransactionId { bytes: id },
-        board: Board(board),
-        kind,
-        taken: Nonce { bytes: taken },
-        sent: Nonce { bytes: sent },
-        hash: Hash { bytes: hash },
+    let state = state_of(bytes[places::TRANSACTION_STATE])?;
+    Some(Transaction {
+        id: TransactionId {
+            bytes: get(bytes, places::TRANSACTION_ID),
+        },
+        board: Board(u16::from_be_bytes(get(bytes, places::TRANSACTION_BOARD))),
+        kind: bytes[places::TRANSACTION_KIND],
+        taken: Nonce {
+            bytes: get(bytes, places::TRANSACTION_TAKEN),
+        },
+        sent: Nonce {
+            bytes: get(bytes, places::TRANSACTION_SENT),
+        },
+        hash: Hash {
+            bytes: get(bytes, places::TRANSACTION_HASH),
+        },
         state,
-    }
+    })
 }
 
 // Id, board and kind.
-fn put_request(bytes: &mut [u8], at: usize, t: Transaction)
-    requires { at + transaction_bytes ≤ length bytes.old }
-    ensures { Placed at transaction_taken_at (pack_request t) bytes.old bytes.new }
+fn put_request(bytes: &mut [u8], t: Transaction)
+    requires { transaction_bytes ≤ length bytes.old }
+    ensures { Placed 0 transaction_taken_at (pack_request t) bytes.old bytes.new }
 {
-    let id = t.id.bytes;
-    let board = t.board;
-    put_16(bytes, at, id);
-    put_2(bytes, at + places::TRANSACTION_BOARD, board.0);
-    put_1(bytes, at + places::TRANSACTION_KIND, t.kind);
+    put(bytes, places::TRANSACTION_ID, &t.id.bytes);
+    put(bytes, places::TRANSACTION_BOARD, &t.board.0.to_be_bytes());
+    bytes[places::TRANSACTION_KIND] = t.kind;
 }
 
-// Nonces, hash and state, of the transaction that starts at the offset.
-fn put_progress(bytes: &mut [u8], at: usize, t: Transaction)
-    requires { at + transaction_bytes ≤ length bytes.old }
-    ensures { Placed (at + transaction_taken_at) progress_part_bytes (pack_progress t) bytes.old bytes.new }
+// Nonces, hash and state.
+fn put_progress(bytes: &mut [u8], t: Transaction)
+    requires { transaction_bytes ≤ length bytes.old }
+    ensures { Placed transaction_taken_at progress_part_bytes (pack_progress t) bytes.old bytes.new }
 {
-    let taken = t.taken.bytes;
-    let sent = t.sent.bytes;
-    let hash = t.hash.bytes;
-    let state = t.state;
-    put_16(bytes, at + places::TRANSACTION_TAKEN, taken);
-    put_16(bytes, at + places::TRANSACTION_SENT, sent);
-    put_32(bytes, at + places::TRANSACTION_HASH, hash);
-    put_1(bytes, at + places::TRANSACTION_STATE, state_number(state));
+    put(bytes, places::TRANSACTION_TAKEN, &t.taken.bytes);
+    put(bytes, places::TRANSACTION_SENT, &t.sent.bytes);
+    put(bytes, places::TRANSACTION_HASH, &t.hash.bytes);
+    bytes[places::TRANSACTION_STATE] = state_number(t.state);
 }
 
-fn put_transaction(bytes: &mut [u8], at: usize, t: Transaction)
-    requires { at + transaction_bytes ≤ length bytes.old }
-    ensures { Placed at transaction_bytes (pack_transaction t) bytes.old bytes.new }
+// The transaction as the first bytes.
+fn put_transaction(bytes: &mut [u8], t: Transaction)
+    requires { transaction_bytes ≤ length bytes.old }
+    ensures { Placed 0 transaction_bytes (pack_transaction t) bytes.old bytes.new }
 {
-    put_request(bytes, at, t);
-    put_progress(bytes, at, t);
+    put_request(bytes, t);
+    put_progress(bytes, t);
 }
 
-// Whether each state byte is a state.
-fn states_good(bytes: &[u8]) -> bool
+// The table that the bytes hold, where each state byte is a state.
+fn get_table(bytes: &[u8]) -> Option<TransactionTable>
     requires { table_bytes ≤ length bytes.now }
-    ensures { result ≡ states_good capacity bytes.now }
+    ensures { result ≡ cond (states_good capacity bytes.now) (Some (table_of bytes.now)) None }
 {
-    let mut i: usize = 0;
-    let mut at: usize = 0;
-    while i < TransactionTable::CAPACITY {
-        if bytes[at + places::TRANSACTION_STATE] >= 7 {
-            return false;
-        }
-        i += 1;
-        at += TRANSACTION_BYTES;
+    let mut table = TransactionTable::empty();
+    for i in 0..TransactionTable::CAPACITY {
+        table.transactions[i] = get_transaction(&bytes[i * TRANSACTION_BYTES..])?;
     }
-    true
-}
-
-fn get_table(bytes: &[u8]) -> TransactionTable
-    requires { table_bytes ≤ length bytes.now }
-    ensures { result ≡ table_of bytes.now }
-{
-    let empty = TransactionTable::empty();
-    let mut rows = empty.transactions;
-    let mut i: usize = 0;
-    let mut at: usize = 0;
-    while i < TransactionTable::CAPACITY {
-        rows[i] = get_transaction(bytes, at);
-        i += 1;
-        at += TRANSACTION_BYTES;
-    }
-    TransactionTable { transactions: rows }
-}
-
-fn no_table() -> UnpackedTable
-    ensures { result ≡ no_table }
-{
-    let table = TransactionTable::empty();
-    UnpackedTable { ok: false, table }
+    Some(table)
 }
 
 // The table that `bytes` holds, where they are exactly as long as one and every state byte is a state.
-pub fn unpack_table(bytes: &[u8]) -> UnpackedTable
+#[tactic(auto, unfolding(crate::specs::Table::unpack_table))]
+pub fn unpack_table(bytes: &[u8]) -> Option<TransactionTable>
     ensures { result ≡ unpack_table bytes.now }
 {
-    if bytes.len() == TABLE_BYTES {
-        if states_good(bytes) {
-            let table = get_table(bytes);
-            UnpackedTable { ok: true, table }
-        } else {
-            no_table()
-        }
-    } else {
-        no_table()
+    if bytes.len() != TABLE_BYTES {
+        return None;
     }
+    get_table(bytes)
 }
 
-fn put_rows(bytes: &mut [u8], rows: [Transaction; TransactionTable::CAPACITY])
+fn put_rows(bytes: &mut [u8], rows: &[Transaction; TransactionTable::CAPACITY])
     requires { table_bytes ≤ length bytes.old }
-    ensures { Placed 0 table_bytes (pack_rows rows) bytes.old bytes.new }
+    ensures { Placed 0 table_bytes (pack_rows rows.now) bytes.old bytes.new }
 {
-    let mut i: usize = 0;
-    let mut at: usize = 0;
-    while i < TransactionTable::CAPACITY {
-        put_transaction(bytes, at, rows[i]);
-        i += 1;
-        at += TRANSACTION_BYTES;
+    for (i, row) in rows.iter().enumerate() {
+        put_transaction(&mut bytes[i * TRANSACTION_BYTES..], *row);
     }
 }
 
 // The table as bytes. False, with nothing changed, where `bytes` is not exactly as long as one.
+#[tactic(auto, unfolding(crate::specs::Table::pack_table_in))]
 pub fn pack_table(bytes: &mut [u8], table: TransactionTable) -> bool
     ensures { (result ≡ eqb (length bytes.old) table_bytes) × (bytes.new ≡ pack_table_in table bytes.old) }
 {
     if bytes.len() == TABLE_BYTES {
-        let rows = table.transactions;
-        put_rows(bytes, rows);
+        put_rows(bytes, &table.transactions);
         true
     } else {
         false

@@ -2,7 +2,7 @@
 use mathlib.Core.Path.{refl}
 use native.Mathlib.Omega.{arith}
 use Rattle.packed.specs.Answer.{pack_end_entity_answer}
-use Rattle.packed.proofs.Copies.{next, no_room, room}
+use Rattle.packed.proofs.Copies.{inside, next, no_room, room}
 use Rattle.packed.proofs.answer.pack_end_entity_answer.Goals as goal
 
 pub returns-then-bytes-lt-END_ENTITY_ANSWER_BYTES : goal.returns-then-bytes-lt-END_ENTITY_ANSWER_BYTES
@@ -13,11 +13,7 @@ returns-then-bytes-lt-END_ENTITY_ANSWER_BYTES c =
 pub returns : goal.returns
 unfolding pack_end_entity_answer
 returns c =
-    let outgoing = c in
-    let sends = outgoing in
-    let fault = sends in
-    let outcome = fault in
     room (omega arith) (
-    next outcome.put_outcome.ensures refl (
-    next fault.put_fault.ensures refl (
-    next sends.put_flag.ensures refl outgoing.put_outgoing.ensures)))
+    next (rw c.outcome_bytes.ensures at c.put.ensures) refl (
+    next c.put_fault.ensures refl (
+    next c.put_flag.ensures refl (inside (omega arith) c.put_outgoing.ensures))))

@@ -1,8 +1,9 @@
 -- The parts are put in one after the other, where there is room.
 use mathlib.Core.Path.{refl}
 use native.Mathlib.Omega.{arith}
+use lib.ListN.{length-set}
 use Rattle.packed.specs.Answer.{pack_registrar_answer}
-use Rattle.packed.proofs.Copies.{next, no_room, room}
+use Rattle.packed.proofs.Copies.{inside, next, one_of, no_room, room}
 use Rattle.packed.proofs.answer.pack_registrar_answer.Goals as goal
 
 pub returns-then-bytes-lt-REGISTRAR_ANSWER_BYTES : goal.returns-then-bytes-lt-REGISTRAR_ANSWER_BYTES
@@ -13,13 +14,8 @@ returns-then-bytes-lt-REGISTRAR_ANSWER_BYTES c =
 pub returns : goal.returns
 unfolding pack_registrar_answer
 returns c =
-    let outgoing = c in
-    let sends = outgoing in
-    let slot = sends in
-    let fault = slot in
-    let outcome = fault in
     room (omega arith) (
-    next outcome.put_outcome.ensures refl (
-    next fault.put_fault.ensures refl (
-    next (rw slot.slot_byte.ensures at slot.put_1.ensures) refl (
-    next sends.put_flag.ensures refl outgoing.put_outgoing.ensures))))
+    next (rw c.outcome_bytes.ensures at c.put.ensures) refl (
+    next c.put_fault.ensures refl (
+    next (one_of c.slot_byte.ensures) refl (
+    next c.put_flag.ensures refl (inside (omega (arith, length-set c.put_fault.new.bytes 13 c.slot_byte.result)) c.put_outgoing.ensures)))))

@@ -1,20 +1,18 @@
 -- The parts are put in one after the other.
-use native.Mathlib.Omega.{arith}
+use mathlib.Core.Path.{refl}
+use borrow.Author.Rules.{rules}
 use Rattle.packed.specs.Outgoing.{pack_contents}
-use Rattle.packed.proofs.Copies.{next}
+use Rattle.packed.proofs.Copies.{next, one_of}
+use Rattle.packed.proofs.Numbers.{four_put}
 use Rattle.packed.proofs.outgoing.put_contents.Goals as goal
 
 pub returns : goal.returns
 unfolding pack_contents
 returns c =
-    let number = c in
-    let has-number = number in
-    let failure = has-number in
-    let hash = failure in
-    let status = hash in
-    let has-status = status in
-    next has-status.put_flag.ensures (omega arith) (
-    next status.put_4.ensures (omega arith) (
-    next hash.put_32.ensures (omega arith) (
-    next (rw failure.failure_number.ensures at failure.put_1.ensures) (omega arith) (
-    next has-number.put_flag-2.ensures (omega arith) number.put_4-2.ensures))))
+    let status = four_put {n = c.args.c.status} (search rules) c.to_be_bytes.ensures c.put.ensures in
+    let number = four_put {n = c.args.c.number} (search rules) c.to_be_bytes-2.ensures c.put-3.ensures in
+    next c.put_flag.ensures refl (
+    next status refl (
+    next c.put-2.ensures refl (
+    next (one_of c.failure_number.ensures) refl (
+    next c.put_flag-2.ensures refl number))))

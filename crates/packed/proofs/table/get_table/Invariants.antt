@@ -1,15 +1,10 @@
--- The first `i` rows are read.
-use Prim.Native.Nat.{◌-◌, ◌*◌}
-use mathlib.Core.Path.{◌≡◌}
+-- The first `i` rows are read, and their state bytes are states.
 use Rattle.protocol.specs.Table.{capacity}
-use Rattle.packed.specs.Table.{transaction_bytes, rows_of}
+use Rattle.packed.specs.Table.{rows_of}
 use Rattle.packed.proofs.Copies.{Filled}
+use Rattle.packed.proofs.Rows.{Checked}
 use Rattle.packed.proofs.table.get_table.Given as goal
 
 abbrev pub invariant-loop-i : goal.invariant-loop-i
 invariant-loop-i l =
-    Filled capacity (rows_of capacity l.bytes) l.initial.rows l.rows l.i × (l.at ≡ l.i * transaction_bytes)
-
-abbrev pub decreases-loop-i : goal.decreases-loop-i
-decreases-loop-i l =
-    capacity - l.i
+    Filled capacity (rows_of capacity l.bytes) l.initial.table.transactions l.table.transactions l.i × Checked capacity l.bytes l.i

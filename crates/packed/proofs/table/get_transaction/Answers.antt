@@ -1,26 +1,28 @@
--- Each part is read where the definition says, from the offset on.
-use mathlib.Core.Path.{sym, ◌∙◌, ap}
-use lib.Seq.{get_or-drop}
-use Rattle.packed.specs.Places.{nonce_bytes, hash_bytes, transaction_board_at, transaction_kind_at, transaction_taken_at, transaction_sent_at, transaction_hash_at, transaction_state_at}
+-- Each part is read where the definition says.
+use mathlib.Core.Bool.{true}
+use mathlib.Core.Path.{◌≡◌, sym, ◌∙◌}
+use lib.Dec.{ltb}
+use lib.ListN.{get_or}
+use Rattle.std.specs.Prelude.{Some}
+use Rattle.packed.specs.Places.{transaction_board_at, transaction_kind_at, transaction_state_at}
 use Rattle.packed.specs.Table.{transaction_state_of, transaction_of}
-use Rattle.packed.proofs.Parts.{part-drop, two-drop}
+use Rattle.packed.proofs.Numbers.{two_read}
+use Rattle.packed.proofs.Tests.{answered}
 use Rattle.packed.proofs.table.get_transaction.Goals as goal
 
 pub returns : goal.returns
 unfolding transaction_of
 returns c =
-    let hash = c in
-    let sent = hash in
-    let taken = sent in
-    let board = taken in
-    let id = board in
-    let a = id.args in
-    λ i. record {
-      id = record { bytes = id.get_16-id.ensures i };
-      board = record { 0 = (board.get_2-board.ensures ∙ sym (two-drop a.at transaction_board_at a.bytes.now)) i };
-      kind = sym (get_or-drop a.at a.bytes.now transaction_kind_at 0) i;
-      taken = record { bytes = (taken.get_16-taken.ensures ∙ sym (part-drop a.at transaction_taken_at nonce_bytes a.bytes.now)) i };
-      sent = record { bytes = (sent.get_16-sent.ensures ∙ sym (part-drop a.at transaction_sent_at nonce_bytes a.bytes.now)) i };
-      hash = record { bytes = (hash.get_32-hash.ensures ∙ sym (part-drop a.at transaction_hash_at hash_bytes a.bytes.now)) i };
-      state = (c.state_of-state.ensures ∙ ap transaction_state_of (sym (get_or-drop a.at a.bytes.now transaction_state_at 0))) i;
-    }
+    let s = c.args.bytes.now in
+    let n = get_or s transaction_state_at 0 in
+    let state : (ltb n 7 ≡ true) × (transaction_state_of n ≡ c.in_ok-state.state) = answered (ltb n 7) c.in_ok-state.ensures in
+    rw state.0 (
+    λ i. Some (record {
+      id = record { bytes = c.get.ensures i };
+      board = record { 0 = (c.from_be_bytes.ensures ∙ two_read transaction_board_at s _ c.get-2.ensures) i };
+      kind = get_or s transaction_kind_at 0;
+      taken = record { bytes = c.get-3.ensures i };
+      sent = record { bytes = c.get-4.ensures i };
+      hash = record { bytes = c.get-5.ensures i };
+      state = sym state.1 i;
+    }))

@@ -1,26 +1,19 @@
 use mathlib.Core.Path.{refl}
 use native.Mathlib.Omega.{arith}
 use Rattle.packed.specs.Table.{pack_rows}
-use Rattle.packed.proofs.Copies.{placed_length}
+use Rattle.packed.proofs.Copies.{inside}
 use Rattle.packed.proofs.Rows.{put-row, put_all_rows}
 use Rattle.packed.proofs.table.put_rows.Goals as goal
 
 pub loop-i-init : goal.loop-i-init
 unfolding pack_rows
 loop-i-init c =
-    record { below = omega arith; place = refl; put = record { is = refl; size = refl } }
-
-pub put_transaction-requires : goal.put_transaction-requires
-unfolding pack_rows
-put_transaction-requires c =
-    omega (arith, placed_length c.loop-i.invariant.put)
+    record { below = omega arith; put = record { is = refl; size = refl } }
 
 pub loop-i-preserved : goal.loop-i-preserved
-unfolding pack_rows
 loop-i-preserved c =
-    put-row c.loop-i.invariant (omega arith) (omega arith) _ c.put_transaction.ensures
+    put-row c.loop-i.invariant (omega arith) (omega arith) _ (inside (omega arith) c.put_transaction.ensures)
 
 pub returns : goal.returns
-unfolding pack_rows
 returns c =
     put_all_rows c.loop-i.invariant (omega arith) (omega arith)

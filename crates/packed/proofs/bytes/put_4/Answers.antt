@@ -1,8 +1,0 @@
--- The two halves are put in one after the other.
-use mathlib.Core.Path.{refl}
-use Rattle.packed.proofs.Copies.{next}
-use Rattle.packed.proofs.bytes.put_4.Goals as goal
-
-pub returns : goal.returns
-returns c =
-    next c.put_2.ensures refl c.put_2-2.ensures
