@@ -17,8 +17,8 @@ use Rattle.packed.specs.Bytes.{flag_at, pack_at, fits_at}
 use Rattle.packed.specs.Places.{answer_code_at, answer_refusal_at, registrar_slot_at, registrar_sends_at, registrar_outgoing_at, end_entity_sends_at, end_entity_outgoing_at}
 use Rattle.packed.specs.Outgoing.{outgoing_of, OutgoingSized}
 use Rattle.packed.specs.Answer.{outcome_number, refusal_number, pack_outcome, pack_fault, pack_registrar_answer, pack_end_entity_answer, registrar_answer_bytes, end_entity_answer_bytes, outcome_of, read_fault_of, registrar_answer_of, end_entity_answer_of, OutcomeBack}
-use Rattle.packed.specs.Table.{unpack_table}
-use Rattle.packed.specs.Enrolment.{unpack_enrolment}
+use Rattle.packed.specs.Table.{table_held}
+use Rattle.packed.specs.Enrolment.{enrolment_held}
 use Rattle.packed.proofs.FieldLaws.{flag-back, four_back}
 use Rattle.packed.proofs.OutgoingInverse.{outgoing-back, outgoing-length}
 
@@ -68,7 +68,7 @@ module _ (a : RegistrarAnswer) (b : List ℕ) (z : OutgoingSized a.outgoing) (r 
   registrar_outgoing_back = ap (λ (l : List ℕ). outgoing_of (drop registrar_outgoing_at l)) registrar_placed ∙ outgoing-back a.outgoing z (drop registrar_answer_bytes b)
 
   -- all of the answer
-  pub registrar_back : OutcomeBack a.outcome → a.slot.0 < 255 → (s : List ℕ) → (unpack_table s).table ≡ a.table
+  pub registrar_back : OutcomeBack a.outcome → a.slot.0 < 255 → (s : List ℕ) → table_held s ≡ a.table
       → registrar_answer_of (pack_at 0 registrar_answer_bytes (pack_registrar_answer a) b) s ≡ a
   unfolding registrar_answer_of
   registrar_back o h s e = rw (registrar_outcome_back o, registrar_fault_back, registrar_slot_back h, registrar_sends_back, registrar_outgoing_back, e)
@@ -114,7 +114,7 @@ module _ (a : EndEntityAnswer) (b : List ℕ) (z : OutgoingSized a.outgoing) (r 
   unfolding pack_end_entity_answer pack_outcome pack_fault
   end_entity_outgoing_back = ap (λ (l : List ℕ). outgoing_of (drop end_entity_outgoing_at l)) end_entity_placed ∙ outgoing-back a.outgoing z (drop end_entity_answer_bytes b)
 
-  pub end_entity_back : OutcomeBack a.outcome → (s : List ℕ) → (unpack_enrolment s).enrolment ≡ a.enrolment
+  pub end_entity_back : OutcomeBack a.outcome → (s : List ℕ) → enrolment_held s ≡ a.enrolment
       → end_entity_answer_of (pack_at 0 end_entity_answer_bytes (pack_end_entity_answer a) b) s ≡ a
   unfolding end_entity_answer_of
   end_entity_back o s e = rw (end_entity_outcome_back o, end_entity_fault_back, end_entity_sends_back, end_entity_outgoing_back, e)

@@ -1,14 +1,15 @@
 -- Copies as a loop makes them, one element further: into an array from its start, and into lent bytes from an offset.
 use Prim.Native.Nat.{ℕ, suc, ◌+◌, ◌<◌, ◌≤◌}
-use mathlib.Core.List.{List, [], ◌∷◌, ◌++◌, append-nil}
+use mathlib.Core.List.{List, [], ◌∷◌, ◌++◌, append-nil, append_assoc}
 use mathlib.Core.Bool.{true, false}
 use mathlib.Core.Path.{◌≡◌, sym, ◌∙◌, ap}
 use native.Mathlib.Numerals.{add-one}
 use native.Mathlib.Nat.{add-zero, suc-add, add-suc, le_of_lt, le_antisymm}
 use native.Mathlib.Omega.{arith}
 use borrow.Author.Tests.{le-leb, lt-leb}
+use borrow.Rule.Slice.PartMut.{put_mid}
 use lib.ListN.{length, take, drop, set, get_or, drop_of_length-le, length-append}
-use lib.Seq.{sets, length-sets, set_at, length-take-le, drop-cons, append_snoc, take-suc, take_all, sets-eq}
+use lib.Seq.{sets, length-sets, set_at, length-take-le, drop-drop, drop-cons, append_snoc, take-suc, take_all, sets-eq}
 use Rattle.packed.specs.Bytes.{Placed, fits_at, pack_at}
 
 module _ {ℓ} {A : Type ℓ} where
@@ -59,6 +60,10 @@ module _ {n at : ℕ} {x s₀ s : List ℕ} {i : ℕ} (p : Put n at x s₀ s i) 
 
   pub put_all : length x ≡ n → n ≤ i → Placed at n x s₀ s
   put_all sized k = record { is = p.is ∙ ap (sets s₀ at) (take_all i x (omega arith)); size = sized }
+
+-- what a copy into a part of the bytes leaves
+pub copied : {at n k : ℕ} {x y s : List ℕ} → at + n ≤ length s → k ≡ n → length x ≡ n → y ≡ x → Placed at n x s (put_mid at k s y)
+copied {at} {n} {k} {x} {y} {s} h e l is = record { is = rw (is, e, sets-eq x s at (omega arith), l, drop-drop n at s) (sym (append_assoc (take at s) x (drop (at + n) s))); size = l }
 
 pub placed_length : {at n : ℕ} {x s s' : List ℕ} → Placed at n x s s' → length s' ≡ length s
 placed_length {at} {n} {x} {s} p = ap length p.is ∙ length-sets s at x

@@ -1,20 +1,21 @@
 -- Packing and unpacking an enrolment are inverse to each other.
+use Rattle.std.specs.Prelude.{Some, is_some}
 use Prim.Native.Nat.{ℕ, zero, suc, ◌<◌, ◌≤◌}
 use mathlib.Core.List.{List, [], ◌∷◌}
-use mathlib.Core.Bool.{true}
+use mathlib.Core.Bool.{true, ◌&&◌}
 use mathlib.Core.Path.{◌≡◌, refl, ◌∙◌, ap}
 use native.Mathlib.Omega.{arith}
 use borrow.Author.Tests.{lt-ltb, eq-eqb, ltb-true, eqb-true}
 use lib.Dec.{eqb, ltb}
 use lib.ListN.{length, take, get_or}
 use lib.Seq.{take_all}
+use Rattle.der.proofs.Auto.{and_left, and_right}
 use Rattle.protocol.specs.declared.Enrolment.{Enrolment}
 use Rattle.protocol.specs.declared.EnrolmentState.{EnrolmentState}
 use Rattle.protocol.specs.declared.EnrolmentState.TheVariants.{Asked, Confirming, Declining, Sure, Declined, Failed, Unsettled}
-use Rattle.packed.specs.declared.enrolment.UnpackedEnrolment.{UnpackedEnrolment}
 use Rattle.packed.specs.Places.{id_bytes, nonce_bytes, hash_bytes, enrolment_id_at, enrolment_last_at, enrolment_taken_at, enrolment_hash_at, enrolment_state_at}
-use Rattle.packed.specs.Enrolment.{enrolment_state_number, enrolment_state_of, enrolment_bytes, pack_enrolment, enrolment_of, unpack_enrolment, EnrolmentSized}
-use Rattle.packed.proofs.Tests.{both}
+use Rattle.packed.specs.Enrolment.{enrolment_state_number, enrolment_state_of, enrolment_bytes, pack_enrolment, enrolment_of, unpack_enrolment, enrolment_held, EnrolmentSized}
+use Rattle.packed.proofs.Tests.{tested}
 use Rattle.packed.proofs.Parts.{part_length}
 use Rattle.packed.proofs.FieldLaws.{Field, Bytes, Byte, AllFit, AllRead, read_back, joined_length, made_again}
 
@@ -89,7 +90,7 @@ module _ (x : Enrolment) (z : EnrolmentSized x) where
   unfolding pack_enrolment
   packed_length = joined_length (fields x) all_fit []
 
-  pub unpack_packed : unpack_enrolment (pack_enrolment x) ≡ record { ok = true; enrolment = x }
+  pub unpack_packed : unpack_enrolment (pack_enrolment x) ≡ Some x
   unfolding unpack_enrolment
   unpack_packed =
       let size : eqb (length (pack_enrolment x)) enrolment_bytes ≡ true = eq-eqb _ _ packed_length in
@@ -103,18 +104,32 @@ unfolding pack_enrolment enrolment_of
 enrolment-again s h n =
     made_again (fields (enrolment_of s)) 0 s (omega arith) (search (number_of (get_or s enrolment_state_at 0) n))
 
-pub pack_unpacked : (s : List ℕ) → (unpack_enrolment s).ok ≡ true → pack_enrolment (unpack_enrolment s).enrolment ≡ s
-unfolding unpack_enrolment
+-- ## What holds where there is an enrolment
+
+module _ (s : List ℕ) (ok : is_some (unpack_enrolment s) ≡ true) where
+  tests : (eqb (length s) enrolment_bytes && ltb (get_or s enrolment_state_at 0) 7) ≡ true
+  unfolding unpack_enrolment
+  tests = tested (eqb (length s) enrolment_bytes && ltb (get_or s enrolment_state_at 0) 7) (enrolment_of s) ok
+
+  pub enrolment_size : length s ≡ enrolment_bytes
+  enrolment_size = eqb-true _ _ (and_left _ (ltb (get_or s enrolment_state_at 0) 7) tests)
+
+  pub enrolment_state : get_or s enrolment_state_at 0 < 7
+  enrolment_state = ltb-true _ _ (and_right (eqb (length s) enrolment_bytes) _ tests)
+
+  pub enrolment_is : enrolment_held s ≡ enrolment_of s
+  unfolding unpack_enrolment
+  enrolment_is = rw tests refl
+
+pub pack_unpacked : (s : List ℕ) → is_some (unpack_enrolment s) ≡ true → pack_enrolment (enrolment_held s) ≡ s
 pack_unpacked s ok =
-    let tests : (eqb (length s) enrolment_bytes ≡ true) × (ltb (get_or s enrolment_state_at 0) 7 ≡ true) = both (λ (u : UnpackedEnrolment). u.ok) _ _ refl (eqb (length s) enrolment_bytes) (ltb (get_or s enrolment_state_at 0) 7) ok in
-    let size : length s ≡ enrolment_bytes = eqb-true _ _ tests.0 in
-    rw (tests.0, tests.1) (enrolment-again s (omega arith) (ltb-true _ _ tests.1) ∙ take_all enrolment_bytes s (omega arith))
+    let size : length s ≡ enrolment_bytes = enrolment_size s ok in
+    rw (enrolment_is s ok) (enrolment-again s (omega arith) (enrolment_state s ok) ∙ take_all enrolment_bytes s (omega arith))
 
 -- ## What is unpacked has its sizes
 
-pub enrolment_sized : (s : List ℕ) → (unpack_enrolment s).ok ≡ true → EnrolmentSized (unpack_enrolment s).enrolment
-unfolding unpack_enrolment enrolment_of
+pub enrolment_sized : (s : List ℕ) → is_some (unpack_enrolment s) ≡ true → EnrolmentSized (enrolment_held s)
+unfolding enrolment_of
 enrolment_sized s ok =
-    let tests : (eqb (length s) enrolment_bytes ≡ true) × (ltb (get_or s enrolment_state_at 0) 7 ≡ true) = both (λ (u : UnpackedEnrolment). u.ok) _ _ refl (eqb (length s) enrolment_bytes) (ltb (get_or s enrolment_state_at 0) 7) ok in
-    let size : length s ≡ enrolment_bytes = eqb-true _ _ tests.0 in
-    rw (tests.0, tests.1) (record { id = part_length enrolment_id_at id_bytes s (omega arith); last = part_length enrolment_last_at nonce_bytes s (omega arith); taken = part_length enrolment_taken_at nonce_bytes s (omega arith); hash = part_length enrolment_hash_at hash_bytes s (omega arith) })
+    let size : length s ≡ enrolment_bytes = enrolment_size s ok in
+    rw (enrolment_is s ok) (record { id = part_length enrolment_id_at id_bytes s (omega arith); last = part_length enrolment_last_at nonce_bytes s (omega arith); taken = part_length enrolment_taken_at nonce_bytes s (omega arith); hash = part_length enrolment_hash_at hash_bytes s (omega arith) })

@@ -7,4 +7,3 @@ pub mod Parts
 pub mod Rows
 pub mod TableInverse
 pub mod Tests
-pub mod Unpacked

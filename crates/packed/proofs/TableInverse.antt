@@ -1,7 +1,8 @@
 -- Packing and unpacking a table are inverse to each other.
+use Rattle.std.specs.Prelude.{Some, is_some}
 use Prim.Native.Nat.{ℕ, zero, suc, ◌+◌, ◌*◌, ◌<◌, ◌≤◌}
 use mathlib.Core.List.{List, [], ◌∷◌, ◌++◌, append-nil, append_assoc}
-use mathlib.Core.Bool.{true}
+use mathlib.Core.Bool.{true, ◌&&◌}
 use mathlib.Core.Path.{◌≡◌, refl, sym, ◌∙◌, ap}
 use native.Mathlib.Omega.{arith}
 use borrow.Author.Tests.{lt-ltb, eq-eqb, ltb-true, eqb-true}
@@ -14,11 +15,10 @@ use Rattle.protocol.specs.declared.TransactionState.{TransactionState}
 use Rattle.protocol.specs.declared.TransactionState.TheVariants.{Free, Asked, Granted, Confirmed, Declined, Refused, Lapsed}
 use Rattle.protocol.specs.declared.TransactionTable.{TransactionTable}
 use Rattle.protocol.specs.Table.{capacity}
-use Rattle.packed.specs.declared.table.UnpackedTable.{UnpackedTable}
 use Rattle.packed.specs.Bytes.{AllBytes}
 use Rattle.packed.specs.Places.{id_bytes, nonce_bytes, hash_bytes, transaction_id_at, transaction_taken_at, transaction_sent_at, transaction_hash_at, transaction_state_at}
-use Rattle.packed.specs.Table.{transaction_state_number, transaction_state_of, transaction_bytes, pack_request, pack_progress, pack_transaction, transaction_of, table_bytes, pack_rows, rows_of, states_good, pack_table, unpack_table, TransactionSized, AllSized, TableSized}
-use Rattle.packed.proofs.Tests.{both}
+use Rattle.packed.specs.Table.{transaction_state_number, transaction_state_of, transaction_bytes, pack_request, pack_progress, pack_transaction, transaction_of, table_bytes, pack_rows, rows_of, states_good, pack_table, table_of, unpack_table, table_held, TransactionSized, AllSized, TableSized}
+use Rattle.packed.proofs.Tests.{tested}
 use Rattle.packed.proofs.Parts.{bytes_drop, part_length}
 use Rattle.packed.proofs.Rows.{length_rows}
 use Rattle.packed.proofs.FieldLaws.{Field, Bytes, Byte, Two, joined, AllFit, AllRead, read_back, joined_length, made_again}
@@ -119,7 +119,7 @@ states-back (t ∷ ts) z =
     let state : ltb (get_or (pack_transaction t ++ pack_rows ts) transaction_state_at 0) 7 ≡ true = rw (state_read t _ (packed_read t z.0 (pack_rows ts))) (lt-ltb _ _ (below t.state)) in
     cc (state, drop_at (pack_transaction t) (pack_rows ts) transaction_bytes (packed_length t z.0), states-back ts z.1)
 
-pub unpack_packed : (t : TransactionTable) → TableSized t → unpack_table (pack_table t) ≡ record { ok = true; table = t }
+pub unpack_packed : (t : TransactionTable) → TableSized t → unpack_table (pack_table t) ≡ Some t
 unfolding unpack_table
 unpack_packed t z =
     let size : eqb (length (pack_table t)) table_bytes ≡ true = eq-eqb _ _ (rw z.slots at (rows_length t.transactions z.each)) in
@@ -145,12 +145,27 @@ rows_again (suc n) s b h g =
     let size : transaction_bytes + n * transaction_bytes ≡ suc n * transaction_bytes = omega arith in
     rw (first, others, ← take-add transaction_bytes (n * transaction_bytes) s, size)
 
-pub pack_unpacked : (s : List ℕ) → AllBytes s → (unpack_table s).ok ≡ true → pack_table (unpack_table s).table ≡ s
-unfolding unpack_table
+-- ## What holds where there is a table
+
+module _ (s : List ℕ) (ok : is_some (unpack_table s) ≡ true) where
+  tests : (eqb (length s) table_bytes && states_good capacity s) ≡ true
+  unfolding unpack_table
+  tests = tested (eqb (length s) table_bytes && states_good capacity s) (table_of s) ok
+
+  pub table_size : length s ≡ table_bytes
+  table_size = eqb-true _ _ (and_left _ (states_good capacity s) tests)
+
+  pub table_states : states_good capacity s ≡ true
+  table_states = and_right (eqb (length s) table_bytes) _ tests
+
+  pub table_is : table_held s ≡ table_of s
+  unfolding unpack_table
+  table_is = rw tests refl
+
+pub pack_unpacked : (s : List ℕ) → AllBytes s → is_some (unpack_table s) ≡ true → pack_table (table_held s) ≡ s
 pack_unpacked s b ok =
-    let tests : (eqb (length s) table_bytes ≡ true) × (states_good capacity s ≡ true) = both (λ (u : UnpackedTable). u.ok) _ _ refl (eqb (length s) table_bytes) (states_good capacity s) ok in
-    let size : length s ≡ table_bytes = eqb-true _ _ tests.0 in
-    rw (tests.0, tests.1) (rows_again capacity s b (omega arith) tests.1 ∙ take_all table_bytes s (omega arith))
+    let size : length s ≡ table_bytes = table_size s ok in
+    rw (table_is s ok) (rows_again capacity s b (omega arith) (table_states s ok) ∙ take_all table_bytes s (omega arith))
 
 -- ## What is unpacked has its sizes
 
@@ -162,9 +177,7 @@ rows_sized (suc n) s h = (
   rows_sized n (drop transaction_bytes s) (omega (arith, length-drop transaction_bytes s)),
 )
 
-pub table_sized : (s : List ℕ) → (unpack_table s).ok ≡ true → TableSized (unpack_table s).table
-unfolding unpack_table
+pub table_sized : (s : List ℕ) → is_some (unpack_table s) ≡ true → TableSized (table_held s)
 table_sized s ok =
-    let tests : (eqb (length s) table_bytes ≡ true) × (states_good capacity s ≡ true) = both (λ (u : UnpackedTable). u.ok) _ _ refl (eqb (length s) table_bytes) (states_good capacity s) ok in
-    let size : length s ≡ table_bytes = eqb-true _ _ tests.0 in
-    rw (tests.0, tests.1) (record { slots = length_rows capacity s; each = rows_sized capacity s (omega arith) })
+    let size : length s ≡ table_bytes = table_size s ok in
+    rw (table_is s ok) (record { slots = length_rows capacity s; each = rows_sized capacity s (omega arith) })

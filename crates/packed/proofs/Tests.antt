@@ -1,8 +1,8 @@
--- An answer that is good only where two tests hold.
-use mathlib.Core.Bool.{Bool, true, false, cond, true≢false}
-use mathlib.Core.Path.{◌≡◌, refl, sym, ◌∙◌}
+-- An answer that is there only where a test holds.
+use Rattle.std.specs.Prelude.{Some, None, is_some}
+use mathlib.Core.Bool.{Bool, true, false, cond}
+use mathlib.Core.Path.{◌≡◌, refl}
 
-pub both {ℓ} : {A : Type ℓ} (ok : A → Bool) (good none : A) → ok none ≡ false → (p q : Bool) → ok (cond p (cond q good none) none) ≡ true → (p ≡ true) × (q ≡ true)
-both ok good none n true true e = (refl, refl)
-both ok good none n true false e = absurd (true≢false (sym e ∙ n))
-both ok good none n false q e = absurd (true≢false (sym e ∙ n))
+pub tested : {A : Type 0} (b : Bool) (x : A) → is_some (cond b (Some x) None) ≡ true → b ≡ true
+tested true x e = refl
+tested false x e = e

@@ -8,8 +8,8 @@ use Rattle.protocol.specs.declared.EndEntityAnswer.{EndEntityAnswer}
 use Rattle.packed.specs.Bytes.{flag, flag_at, eight_bytes, eight_at}
 use Rattle.packed.specs.Places.{answer_code_at, answer_refusal_at, answer_bit_at, answer_fault_at, answer_offset_at, answer_rule_at, registrar_slot_at, registrar_sends_at, registrar_outgoing_at, registrar_end, end_entity_sends_at, end_entity_outgoing_at, end_entity_end}
 use Rattle.packed.specs.Outgoing.{failure_number, failure_of, pack_outgoing, outgoing_of}
-use Rattle.packed.specs.Table.{unpack_table}
-use Rattle.packed.specs.Enrolment.{unpack_enrolment}
+use Rattle.packed.specs.Table.{table_held}
+use Rattle.packed.specs.Enrolment.{enrolment_held}
 
 -- ## How the call ended
 
@@ -81,7 +81,7 @@ registrar_answer_of b s =
       slot = record { 0 = get_or b registrar_slot_at 0 };
       sends = flag_at registrar_sends_at b;
       outgoing = outgoing_of (drop registrar_outgoing_at b);
-      table = (unpack_table s).table;
+      table = table_held s;
     }
 
 unfoldable pub end_entity_answer_of : (b s : List ℕ) → EndEntityAnswer
@@ -91,7 +91,7 @@ end_entity_answer_of b s =
       fault = read_fault_of b;
       sends = flag_at end_entity_sends_at b;
       outgoing = outgoing_of (drop end_entity_outgoing_at b);
-      enrolment = (unpack_enrolment s).enrolment;
+      enrolment = enrolment_held s;
     }
 
 -- for the theorems: no bit is 255

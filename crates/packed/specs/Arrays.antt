@@ -1,11 +1,11 @@
 -- Ids, nonces and hashes that the host hands in as slices: 16 or 32 bytes exactly.
-use Rattle.std.specs.Prelude.{ℕ, List, true, false, cond, length, eqb}
+use Rattle.std.specs.Prelude.{ℕ, List, cond, length, eqb, Option, Some, None, unwrap_or}
 use Rattle.protocol.specs.Bytes.{zeros}
-use Rattle.packed.specs.declared.arrays.Unpacked16.{Unpacked16}
-use Rattle.packed.specs.declared.arrays.Unpacked32.{Unpacked32}
 
-unfoldable pub unpack16 : List ℕ → Unpacked16
-unpack16 s = cond (eqb (length s) 16) (record { ok = true; bytes = s }) (record { ok = false; bytes = zeros 16 })
+-- the bytes, where there are n
+unfoldable pub unpack : ℕ → List ℕ → Option (List ℕ)
+unpack n s = cond (eqb (length s) n) (Some s) None
 
-unfoldable pub unpack32 : List ℕ → Unpacked32
-unpack32 s = cond (eqb (length s) 32) (record { ok = true; bytes = s }) (record { ok = false; bytes = zeros 32 })
+-- for the theorems: the bytes, or n zeros where there are not as many
+abbrev pub bytes_or_zeros : ℕ → List ℕ → List ℕ
+bytes_or_zeros n s = unwrap_or (unpack n s) (zeros n)

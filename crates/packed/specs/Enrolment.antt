@@ -1,10 +1,9 @@
 -- An enrolment in bytes.
-use Rattle.std.specs.Prelude.{ℕ, List, [], ◌∷◌, ◌++◌, true, false, cond, ◌≡◌, length, get_or, eqb, ltb}
+use Rattle.std.specs.Prelude.{ℕ, List, [], ◌∷◌, ◌++◌, cond, ◌&&◌, ◌≡◌, length, get_or, eqb, ltb, Option, Some, None, unwrap_or}
 use Rattle.protocol.specs.declared.Enrolment.{Enrolment}
 use Rattle.protocol.specs.declared.EnrolmentState.{EnrolmentState}
 use Rattle.protocol.specs.declared.EnrolmentState.TheVariants.{Asked, Confirming, Declining, Sure, Declined, Failed, Unsettled}
 use Rattle.protocol.specs.EndEntity.{no_enrolment}
-use Rattle.packed.specs.declared.enrolment.UnpackedEnrolment.{UnpackedEnrolment}
 use Rattle.packed.specs.Bytes.{part}
 use Rattle.packed.specs.Places.{id_bytes, nonce_bytes, hash_bytes, enrolment_id_at, enrolment_kind_at, enrolment_last_at, enrolment_taken_at, enrolment_hash_at, enrolment_state_at, enrolment_end}
 
@@ -56,12 +55,13 @@ enrolment_of s =
 
 -- ## The two calls
 
-abbrev pub none_unpacked : UnpackedEnrolment
-none_unpacked = record { ok = false; enrolment = no_enrolment }
+-- where they are exactly as long as one, and the state byte is a state
+unfoldable pub unpack_enrolment : List ℕ → Option Enrolment
+unpack_enrolment s = cond (eqb (length s) enrolment_bytes && ltb (get_or s enrolment_state_at 0) 7) (Some (enrolment_of s)) None
 
-unfoldable pub unpack_enrolment : List ℕ → UnpackedEnrolment
-unpack_enrolment s =
-    cond (eqb (length s) enrolment_bytes) (cond (ltb (get_or s enrolment_state_at 0) 7) (record { ok = true; enrolment = enrolment_of s }) none_unpacked) none_unpacked
+-- for the theorems: the enrolment, or one that is all zeros, at Failed
+abbrev pub enrolment_held : List ℕ → Enrolment
+enrolment_held s = unwrap_or (unpack_enrolment s) no_enrolment
 
 -- bytes of another length stay as they are
 unfoldable pub pack_enrolment_in : Enrolment → List ℕ → List ℕ

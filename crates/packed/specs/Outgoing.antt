@@ -1,10 +1,9 @@
 -- A message to be sent, in bytes, at an offset of an answer.
-use Rattle.std.specs.Prelude.{ℕ, List, [], ◌∷◌, ◌++◌, true, false, cond, ◌≡◌, length, get_or, eqb, Some, None}
+use Rattle.std.specs.Prelude.{ℕ, List, [], ◌∷◌, ◌++◌, cond, ◌≡◌, length, get_or, eqb, Option, Some, None, unwrap_or}
 use Rattle.protocol.specs.Types.{FailureInfo}
 use Rattle.protocol.specs.declared.OutgoingContents.{OutgoingContents}
 use Rattle.protocol.specs.declared.Outgoing.{Outgoing}
 use Rattle.protocol.specs.Bytes.{zeros}
-use Rattle.packed.specs.declared.outgoing.UnpackedOutgoing.{UnpackedOutgoing}
 use Rattle.packed.specs.Bytes.{part, flag, flag_at, four_bytes, four_at}
 use Rattle.packed.specs.Places.{id_bytes, nonce_bytes, hash_bytes, outgoing_kind_at, outgoing_id_at, outgoing_sender_nonce_at, outgoing_has_recip_nonce_at, outgoing_recip_nonce_at, outgoing_has_status_at, outgoing_status_at, outgoing_hash_at, outgoing_failure_at, outgoing_has_number_at, outgoing_number_at, outgoing_end}
 
@@ -65,9 +64,13 @@ outgoing_of s =
       contents = outgoing_contents_of s;
     }
 
--- the message that these bytes hold, where they are exactly as long as one; else what zeros say
-unfoldable pub unpack_outgoing : List ℕ → UnpackedOutgoing
-unpack_outgoing s = cond (eqb (length s) outgoing_bytes) (record { ok = true; outgoing = outgoing_of s }) (record { ok = false; outgoing = outgoing_of (zeros outgoing_bytes) })
+-- the message that these bytes hold, where they are exactly as long as one
+unfoldable pub unpack_outgoing : List ℕ → Option Outgoing
+unpack_outgoing s = cond (eqb (length s) outgoing_bytes) (Some (outgoing_of s)) None
+
+-- for the theorems: the message, or what zeros say
+abbrev pub outgoing_held : List ℕ → Outgoing
+outgoing_held s = unwrap_or (unpack_outgoing s) (outgoing_of (zeros outgoing_bytes))
 
 -- for the theorems: the arrays have their lengths, and no bit is 255
 pub record OutgoingSized (o : Outgoing) : Type 0 where

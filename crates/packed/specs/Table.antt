@@ -1,11 +1,10 @@
 -- The transaction table in bytes: its slots one after the other.
-use Rattle.std.specs.Prelude.{ℕ, zero, suc, ◌*◌, List, [], ◌∷◌, ◌++◌, Bool, true, false, cond, ◌&&◌, ◌≡◌, length, drop, get_or, eqb, ltb}
+use Rattle.std.specs.Prelude.{ℕ, zero, suc, ◌*◌, List, [], ◌∷◌, ◌++◌, Bool, true, cond, ◌&&◌, ◌≡◌, length, drop, get_or, eqb, ltb, Option, Some, None, unwrap_or}
 use Rattle.protocol.specs.declared.Transaction.{Transaction}
 use Rattle.protocol.specs.declared.TransactionState.{TransactionState}
 use Rattle.protocol.specs.declared.TransactionState.TheVariants.{Free, Asked, Granted, Confirmed, Declined, Refused, Lapsed}
 use Rattle.protocol.specs.declared.TransactionTable.{TransactionTable}
 use Rattle.protocol.specs.Table.{capacity, empty_table}
-use Rattle.packed.specs.declared.table.UnpackedTable.{UnpackedTable}
 use Rattle.packed.specs.Bytes.{part, two_at, two_bytes}
 use Rattle.packed.specs.Places.{id_bytes, nonce_bytes, hash_bytes, transaction_id_at, transaction_board_at, transaction_kind_at, transaction_taken_at, transaction_sent_at, transaction_hash_at, transaction_state_at, transaction_end}
 
@@ -93,11 +92,13 @@ table_of s = record { transactions = rows_of capacity s }
 
 -- ## The two calls
 
-abbrev pub no_table : UnpackedTable
-no_table = record { ok = false; table = empty_table }
+-- where they are exactly as long as one, and every state byte is a state
+unfoldable pub unpack_table : List ℕ → Option TransactionTable
+unpack_table s = cond (eqb (length s) table_bytes && states_good capacity s) (Some (table_of s)) None
 
-unfoldable pub unpack_table : List ℕ → UnpackedTable
-unpack_table s = cond (eqb (length s) table_bytes) (cond (states_good capacity s) (record { ok = true; table = table_of s }) no_table) no_table
+-- for the theorems: the table, or the empty one
+abbrev pub table_held : List ℕ → TransactionTable
+table_held s = unwrap_or (unpack_table s) empty_table
 
 -- bytes of another length stay as they are
 unfoldable pub pack_table_in : TransactionTable → List ℕ → List ℕ

@@ -2,31 +2,13 @@
 ghost use Rattle.std.specs.Prelude.{◌≡◌, [], ◌∷◌, ◌+◌, ◌<◌, ◌≤◌, length};
 ghost use Rattle.packed.specs.Bytes.{part, Placed, two_at, two_bytes, four_at, four_bytes, eight_bytes, flag, flag_at};
 
-// 16 bytes from an offset.
-pub(crate) fn get_16(bytes: &[u8], at: usize) -> [u8; 16]
-    requires { at + 16 ≤ length bytes.now }
-    ensures { result ≡ part at 16 bytes.now }
+// N bytes from an offset.
+pub(crate) fn get<const N: usize>(bytes: &[u8], at: usize) -> [u8; N]
+    requires { at + N ≤ length bytes.now }
+    ensures { result ≡ part at N bytes.now }
 {
-    let mut x = [0u8; 16];
-    let mut i: usize = 0;
-    while i < 16 {
-        x[i] = bytes[at + i];
-        i += 1;
-    }
-    x
-}
-
-// 32 bytes from an offset.
-pub(crate) fn get_32(bytes: &[u8], at: usize) -> [u8; 32]
-    requires { at + 32 ≤ length bytes.now }
-    ensures { result ≡ part at 32 bytes.now }
-{
-    let mut x = [0u8; 32];
-    let mut i: usize = 0;
-    while i < 32 {
-        x[i] = bytes[at + i];
-        i += 1;
-    }
+    let mut x = [0u8; N];
+    x.copy_from_slice(&bytes[at..at + N]);
     x
 }
 
@@ -68,26 +50,11 @@ pub(crate) fn get_flag(bytes: &[u8], at: usize) -> bool
 }
 
 // Each says too how long what it put in is: a caller has an array's length from here.
-pub(crate) fn put_16(bytes: &mut [u8], at: usize, x: [u8; 16])
-    requires { at + 16 ≤ length bytes.old }
-    ensures { Placed at 16 x bytes.old bytes.new }
+pub(crate) fn put<const N: usize>(bytes: &mut [u8], at: usize, x: &[u8; N])
+    requires { at + N ≤ length bytes.old }
+    ensures { Placed at N x.now bytes.old bytes.new }
 {
-    let mut i: usize = 0;
-    while i < 16 {
-        bytes[at + i] = x[i];
-        i += 1;
-    }
-}
-
-pub(crate) fn put_32(bytes: &mut [u8], at: usize, x: [u8; 32])
-    requires { at + 32 ≤ length bytes.old }
-    ensures { Placed at 32 x bytes.old bytes.new }
-{
-    let mut i: usize = 0;
-    while i < 32 {
-        bytes[at + i] = x[i];
-        i += 1;
-    }
+    bytes[at..at + N].copy_from_slice(x);
 }
 
 pub(crate) fn put_1(bytes: &mut [u8], at: usize, x: u8)

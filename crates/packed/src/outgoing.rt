@@ -4,18 +4,11 @@ ghost use Rattle.packed.specs.Bytes.{Placed};
 ghost use Rattle.packed.specs.Places.{outgoing_contents_at, contents_part_bytes};
 ghost use Rattle.packed.specs.Outgoing.{failure_number, failure_of, outgoing_bytes, pack_names, pack_contents, pack_outgoing, outgoing_contents_of, outgoing_of, unpack_outgoing};
 
-use crate::bytes::{get_4, get_16, get_32, get_flag, put_1, put_4, put_16, put_32, put_flag};
+use crate::bytes::{get, get_4, get_flag, put, put_1, put_4, put_flag};
 use crate::places;
 use protocol::{FailureInfo, Hash, Nonce, Outgoing, OutgoingContents, TransactionId};
 
 pub const OUTGOING_BYTES: usize = places::OUTGOING_END;
-
-// A message to be sent, from bytes. Where `ok` is false there was none, and it is what zeros say.
-#[derive(Clone, Copy)]
-pub struct UnpackedOutgoing {
-    pub ok: bool,
-    pub outgoing: Outgoing,
-}
 
 pub(crate) fn failure_number(f: FailureInfo) -> u8
     ensures { result ≡ failure_number f }
@@ -31,18 +24,23 @@ fn put_names(bytes: &mut [u8], at: usize, o: Outgoing)
     requires { at + outgoing_contents_at ≤ length bytes.old }
     ensures { Placed at outgoing_contents_at (pack_names o) bytes.old bytes.new }
 {
-    let id = o.id.bytes;
-    let sender_nonce = o.sender_nonce.bytes;
-    let recip_nonce = o.recip_nonce.bytes;
     put_1(bytes, at, o.kind);
-    put_16(bytes, at + places::OUTGOING_ID, id);
-    put_16(bytes, at + places::OUTGOING_SENDER_NONCE, sender_nonce);
+    put(bytes, at + places::OUTGOING_ID, &o.id.bytes);
+    put(
+        bytes,
+        at + places::OUTGOING_SENDER_NONCE,
+        &o.sender_nonce.bytes,
+    );
     put_flag(
         bytes,
         at + places::OUTGOING_HAS_RECIP_NONCE,
         o.has_recip_nonce,
     );
-    put_16(bytes, at + places::OUTGOING_RECIP_NONCE, recip_nonce);
+    put(
+        bytes,
+        at + places::OUTGOING_RECIP_NONCE,
+        &o.recip_nonce.bytes,
+    );
 }
 
 // What only some kinds carry, of the message that starts at the offset.
@@ -50,15 +48,13 @@ fn put_contents(bytes: &mut [u8], at: usize, c: OutgoingContents)
     requires { at + outgoing_bytes ≤ length bytes.old }
     ensures { Placed (at + outgoing_contents_at) contents_part_bytes (pack_contents c) bytes.old bytes.new }
 {
-    let hash = c.hash.bytes;
-    let failure = c.failure;
     put_flag(bytes, at + places::OUTGOING_HAS_STATUS, c.has_status);
     put_4(bytes, at + places::OUTGOING_STATUS, c.status);
-    put_32(bytes, at + places::OUTGOING_HASH, hash);
+    put(bytes, at + places::OUTGOING_HASH, &c.hash.bytes);
     put_1(
         bytes,
         at + places::OUTGOING_FAILURE,
-        failure_number(failure),
+        failure_number(c.failure),
     );
     put_flag(bytes, at + places::OUTGOING_HAS_NUMBER, c.has_number);
     put_4(bytes, at + places::OUTGOING_NUMBER, c.number);
@@ -89,7 +85,7 @@ fn get_contents(bytes: &[u8]) -> OutgoingContents
 {
     let has_status = get_flag(bytes, places::OUTGOING_HAS_STATUS);
     let status = get_4(bytes, places::OUTGOING_STATUS);
-    let hash = get_32(bytes, places::OUTGOING_HASH);
+    let hash = get(bytes, places::OUTGOING_HASH);
     let failure = failure_of(bytes[places::OUTGOING_FAILURE]);
     let has_number = get_flag(bytes, places::OUTGOING_HAS_NUMBER);
     let number = get_4(bytes, places::OUTGOING_NUMBER);
@@ -108,10 +104,10 @@ fn get_outgoing(bytes: &[u8]) -> Outgoing
     ensures { result ≡ outgoing_of bytes.now }
 {
     let kind = bytes[places::OUTGOING_KIND];
-    let id = get_16(bytes, places::OUTGOING_ID);
-    let sender = get_16(bytes, places::OUTGOING_SENDER_NONCE);
+    let id = get(bytes, places::OUTGOING_ID);
+    let sender = get(bytes, places::OUTGOING_SENDER_NONCE);
     let has_recip_nonce = get_flag(bytes, places::OUTGOING_HAS_RECIP_NONCE);
-    let recip = get_16(bytes, places::OUTGOING_RECIP_NONCE);
+    let recip = get(bytes, places::OUTGOING_RECIP_NONCE);
     let contents = get_contents(bytes);
     Outgoing {
         kind,
@@ -125,17 +121,12 @@ fn get_outgoing(bytes: &[u8]) -> Outgoing
 
 // The message that `bytes` hold, where they are exactly as long as one.
 #[tactic(auto, unfolding(crate::specs::Outgoing::unpack_outgoing))]
-pub fn unpack_outgoing(bytes: &[u8]) -> UnpackedOutgoing
+pub fn unpack_outgoing(bytes: &[u8]) -> Option<Outgoing>
     ensures { result ≡ unpack_outgoing bytes.now }
 {
     if bytes.len() == OUTGOING_BYTES {
-        let outgoing = get_outgoing(bytes);
-        return UnpackedOutgoing { ok: true, outgoing };
-    }
-    let zeros = [0u8; OUTGOING_BYTES];
-    let outgoing = get_outgoing(&zeros);
-    UnpackedOutgoing {
-        ok: false,
-        outgoing,
+        Some(get_outgoing(bytes))
+    } else {
+        None
     }
 }

@@ -3,9 +3,9 @@ ghost use Rattle.std.specs.Prelude.{◌≡◌, ◌+◌, ◌≤◌, eqb, length, 
 ghost use Rattle.protocol.specs.Table.{capacity};
 ghost use Rattle.packed.specs.Bytes.{Placed};
 ghost use Rattle.packed.specs.Places.{transaction_taken_at, progress_part_bytes};
-ghost use Rattle.packed.specs.Table.{transaction_state_number, transaction_state_of, transaction_bytes, pack_request, pack_progress, pack_transaction, transaction_of, table_bytes, pack_rows, states_good, table_of, no_table, unpack_table, pack_table_in};
+ghost use Rattle.packed.specs.Table.{transaction_state_number, transaction_state_of, transaction_bytes, pack_request, pack_progress, pack_transaction, transaction_of, table_bytes, pack_rows, states_good, table_of, unpack_table, pack_table_in};
 
-use crate::bytes::{get_2, get_16, get_32, put_1, put_2, put_16, put_32};
+use crate::bytes::{get, get_2, put, put_1, put_2};
 use crate::places;
 use protocol::{
     Board, Hash, Nonce, Transaction, TransactionId, TransactionState, TransactionTable,
@@ -14,13 +14,6 @@ use protocol::{
 pub const TRANSACTION_BYTES: usize = places::TRANSACTION_END;
 
 pub const TABLE_BYTES: usize = TransactionTable::CAPACITY * TRANSACTION_BYTES;
-
-// A table from bytes. Where `ok` is false there was none, and the table is the empty one.
-#[derive(Clone, Copy)]
-pub struct UnpackedTable {
-    pub ok: bool,
-    pub table: TransactionTable,
-}
 
 fn state_number(s: TransactionState) -> u8
     ensures { result ≡ transaction_state_number s }
@@ -54,12 +47,12 @@ fn get_transaction(bytes: &[u8], at: usize) -> Transaction
     requires { at + transaction_bytes ≤ length bytes.now }
     ensures { result ≡ transaction_of (drop at bytes.now) }
 {
-    let id = get_16(bytes, at);
+    let id = get(bytes, at);
     let board = get_2(bytes, at + places::TRANSACTION_BOARD);
     let kind = bytes[at + places::TRANSACTION_KIND];
-    let taken = get_16(bytes, at + places::TRANSACTION_TAKEN);
-    let sent = get_16(bytes, at + places::TRANSACTION_SENT);
-    let hash = get_32(bytes, at + places::TRANSACTION_HASH);
+    let taken = get(bytes, at + places::TRANSACTION_TAKEN);
+    let sent = get(bytes, at + places::TRANSACTION_SENT);
+    let hash = get(bytes, at + places::TRANSACTION_HASH);
     let state = state_of(bytes[at + places::TRANSACTION_STATE]);
     Transaction {
         id: TransactionId { bytes: id },
@@ -77,10 +70,8 @@ fn put_request(bytes: &mut [u8], at: usize, t: Transaction)
     requires { at + transaction_bytes ≤ length bytes.old }
     ensures { Placed at transaction_taken_at (pack_request t) bytes.old bytes.new }
 {
-    let id = t.id.bytes;
-    let board = t.board;
-    put_16(bytes, at, id);
-    put_2(bytes, at + places::TRANSACTION_BOARD, board.0);
+    put(bytes, at, &t.id.bytes);
+    put_2(bytes, at + places::TRANSACTION_BOARD, t.board.0);
     put_1(bytes, at + places::TRANSACTION_KIND, t.kind);
 }
 
@@ -89,14 +80,10 @@ fn put_progress(bytes: &mut [u8], at: usize, t: Transaction)
     requires { at + transaction_bytes ≤ length bytes.old }
     ensures { Placed (at + transaction_taken_at) progress_part_bytes (pack_progress t) bytes.old bytes.new }
 {
-    let taken = t.taken.bytes;
-    let sent = t.sent.bytes;
-    let hash = t.hash.bytes;
-    let state = t.state;
-    put_16(bytes, at + places::TRANSACTION_TAKEN, taken);
-    put_16(bytes, at + places::TRANSACTION_SENT, sent);
-    put_32(bytes, at + places::TRANSACTION_HASH, hash);
-    put_1(bytes, at + places::TRANSACTION_STATE, state_number(state));
+    put(bytes, at + places::TRANSACTION_TAKEN, &t.taken.bytes);
+    put(bytes, at + places::TRANSACTION_SENT, &t.sent.bytes);
+    put(bytes, at + places::TRANSACTION_HASH, &t.hash.bytes);
+    put_1(bytes, at + places::TRANSACTION_STATE, state_number(t.state));
 }
 
 fn put_transaction(bytes: &mut [u8], at: usize, t: Transaction)
@@ -140,26 +127,14 @@ fn get_table(bytes: &[u8]) -> TransactionTable
     TransactionTable { transactions: rows }
 }
 
-fn no_table() -> UnpackedTable
-    ensures { result ≡ no_table }
-{
-    let table = TransactionTable::empty();
-    UnpackedTable { ok: false, table }
-}
-
 // The table that `bytes` holds, where they are exactly as long as one and every state byte is a state.
-pub fn unpack_table(bytes: &[u8]) -> UnpackedTable
+pub fn unpack_table(bytes: &[u8]) -> Option<TransactionTable>
     ensures { result ≡ unpack_table bytes.now }
 {
-    if bytes.len() == TABLE_BYTES {
-        if states_good(bytes) {
-            let table = get_table(bytes);
-            UnpackedTable { ok: true, table }
-        } else {
-            no_table()
-        }
+    if bytes.len() == TABLE_BYTES && states_good(bytes) {
+        Some(get_table(bytes))
     } else {
-        no_table()
+        None
     }
 }
 

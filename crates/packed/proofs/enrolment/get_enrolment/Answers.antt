@@ -12,10 +12,10 @@ returns c =
     let last = taken in
     let id = last in
     λ i. record {
-      id = record { bytes = id.get_16-id.ensures i };
+      id = record { bytes = id.get-id.ensures i };
       kind = get_or id.args.bytes.now enrolment_kind_at 0;
-      last = record { bytes = last.get_16-last.ensures i };
-      taken = record { bytes = taken.get_16-taken.ensures i };
-      hash = record { bytes = hash.get_32-hash.ensures i };
+      last = record { bytes = last.get-last.ensures i };
+      taken = record { bytes = taken.get-taken.ensures i };
+      hash = record { bytes = hash.get-hash.ensures i };
       state = c.state_of-state.ensures i;
     }

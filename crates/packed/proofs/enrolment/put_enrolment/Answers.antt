@@ -13,9 +13,9 @@ returns c =
     let last = taken in
     let kind = last in
     let id = kind in
-    next id.put_16.ensures refl (
+    next id.put.ensures refl (
     next kind.put_1.ensures refl (
-    next last.put_16-2.ensures refl (
-    next taken.put_16-3.ensures refl (
-    next hash.put_32.ensures refl (
+    next last.put-2.ensures refl (
+    next taken.put-3.ensures refl (
+    next hash.put-4.ensures refl (
     rw state.state_number.ensures at state.put_1-2.ensures)))))

@@ -6,4 +6,4 @@ use Rattle.packed.proofs.outgoing.get_outgoing.Goals as goal
 pub returns : goal.returns
 unfolding outgoing_of
 returns c =
-    search (rules, c.get_16-id.ensures, c.get_16-sender.ensures, c.get_flag-has_recip_nonce.ensures, c.get_16-recip.ensures, c.get_contents-contents.ensures)
+    search (rules, c.get-id.ensures, c.get-sender.ensures, c.get_flag-has_recip_nonce.ensures, c.get-recip.ensures, c.get_contents-contents.ensures)

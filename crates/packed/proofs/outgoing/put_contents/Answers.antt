@@ -15,6 +15,6 @@ returns c =
     let has-status = status in
     next has-status.put_flag.ensures (omega arith) (
     next status.put_4.ensures (omega arith) (
-    next hash.put_32.ensures (omega arith) (
+    next hash.put.ensures (omega arith) (
     next (rw failure.failure_number.ensures at failure.put_1.ensures) (omega arith) (
     next has-number.put_flag-2.ensures (omega arith) number.put_4-2.ensures))))

@@ -13,6 +13,6 @@ returns c =
     let id = sender in
     let kind = id in
     next kind.put_1.ensures (omega arith) (
-    next id.put_16.ensures (omega arith) (
-    next sender.put_16-2.ensures (omega arith) (
-    next has-recip.put_flag.ensures (omega arith) recip.put_16-3.ensures)))
+    next id.put.ensures (omega arith) (
+    next sender.put-2.ensures (omega arith) (
+    next has-recip.put_flag.ensures (omega arith) recip.put-3.ensures)))

@@ -16,11 +16,11 @@ returns c =
     let id = board in
     let a = id.args in
     λ i. record {
-      id = record { bytes = id.get_16-id.ensures i };
+      id = record { bytes = id.get-id.ensures i };
       board = record { 0 = (board.get_2-board.ensures ∙ sym (two-drop a.at transaction_board_at a.bytes.now)) i };
       kind = sym (get_or-drop a.at a.bytes.now transaction_kind_at 0) i;
-      taken = record { bytes = (taken.get_16-taken.ensures ∙ sym (part-drop a.at transaction_taken_at nonce_bytes a.bytes.now)) i };
-      sent = record { bytes = (sent.get_16-sent.ensures ∙ sym (part-drop a.at transaction_sent_at nonce_bytes a.bytes.now)) i };
-      hash = record { bytes = (hash.get_32-hash.ensures ∙ sym (part-drop a.at transaction_hash_at hash_bytes a.bytes.now)) i };
+      taken = record { bytes = (taken.get-taken.ensures ∙ sym (part-drop a.at transaction_taken_at nonce_bytes a.bytes.now)) i };
+      sent = record { bytes = (sent.get-sent.ensures ∙ sym (part-drop a.at transaction_sent_at nonce_bytes a.bytes.now)) i };
+      hash = record { bytes = (hash.get-hash.ensures ∙ sym (part-drop a.at transaction_hash_at hash_bytes a.bytes.now)) i };
       state = (c.state_of-state.ensures ∙ ap transaction_state_of (sym (get_or-drop a.at a.bytes.now transaction_state_at 0))) i;
     }

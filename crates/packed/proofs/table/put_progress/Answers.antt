@@ -11,7 +11,7 @@ returns c =
     let hash = state in
     let sent = hash in
     let taken = sent in
-    next taken.put_16.ensures (omega arith) (
-    next sent.put_16-2.ensures (omega arith) (
-    next hash.put_32.ensures (omega arith) (
+    next taken.put.ensures (omega arith) (
+    next sent.put-2.ensures (omega arith) (
+    next hash.put-3.ensures (omega arith) (
     rw state.state_number.ensures at state.put_1.ensures)))

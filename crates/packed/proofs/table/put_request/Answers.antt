@@ -10,5 +10,5 @@ returns c =
     let kind = c in
     let board = kind in
     let id = board in
-    next id.put_16.ensures (omega arith) (
+    next id.put.ensures (omega arith) (
     next board.put_2.ensures (omega arith) kind.put_1.ensures)
