@@ -14,7 +14,8 @@ pub const REGISTRAR_ANSWER_BYTES: usize = places::REGISTRAR_END;
 
 pub const END_ENTITY_ANSWER_BYTES: usize = places::END_ENTITY_END;
 
-fn outcome_number(o: Outcome) -> u8
+// 0 done, 1 again, 2 refused: the C interface.
+pub fn outcome_number(o: Outcome) -> u8
     ensures { result ≡ outcome_number o }
 {
     match o {
