@@ -1,29 +1,41 @@
 -- Calls over lent bytes: a fault of the bytes ends the call with nothing changed; else the answer of the call goes back.
+use Rattle.std.specs.Prelude.{Result, leb}
 use Prim.Native.Nat.{ℕ}
 use mathlib.Core.List.{List}
-use mathlib.Core.Path.{◌≡◌, refl, sym, ◌∙◌}
-use borrow.Author.Tests.{eq-eqb, ne_eqb}
+use mathlib.Core.Bool.{Bool, true, false}
+use mathlib.Core.Path.{◌≡◌, refl}
+use lib.Dec.{eqb}
+use lib.ListN.{length}
+use Rattle.protocol.specs.declared.RegistrarAnswer.{RegistrarAnswer}
 use Rattle.protocol.specs.declared.EndEntityAnswer.{EndEntityAnswer}
-use Rattle.packed.specs.Enrolment.{pack_enrolment_in}
-use Rattle.packed.specs.Bytes.{pack_at}
-use Rattle.packed.specs.Answer.{outcome_number, end_entity_answer_bytes, pack_end_entity_answer}
-use Rattle.duskstall.specs.Boundary.{Crossing, Crosses, unless_faulty, start_written}
+use Rattle.packed.specs.Enrolment.{enrolment_bytes}
+use Rattle.packed.specs.Answer.{registrar_answer_bytes, end_entity_answer_bytes}
+use Rattle.duskstall.specs.declared.boundary.BoundaryFault.{BoundaryFault}
+use Rattle.duskstall.specs.Boundary.{Crossing, Crosses, boundary_fault, unless_faulty, answered_if, returned, registrar_written, registrar_answered, end_entity_written, end_entity_answered, start_written, start_crossing}
 
--- a fault of the bytes, as it was worked out and as the definition has it
-module _ (k : ℕ) {f : ℕ} (e : k ≡ f) (s b : List ℕ) (x : Crossing) where
-  -- a number other than 0 ends the call
-  pub faulty : (k ≡ 0 → ⊥) → Crosses k s b (unless_faulty f s b x)
-  faulty d = rw (← e, ne_eqb k 0 d) (record { code_is = refl; state-is = refl; answer-is = refl })
+-- the faults that a call found before, and the room for its answer, are the boundary's
+same : {A : Type 0} (ok args room : Bool) (a : A) (f : A → Crossing) (s b : List ℕ) → returned (answered_if ok args a) room f s b ≡ unless_faulty (boundary_fault ok args room) s b (f a)
+same true true true a f s b = refl
+same true true false a f s b = refl
+same true false room a f s b = refl
+same false args room a f s b = refl
 
-  -- 0 lets it through
-  pub through : k ≡ 0 → (code : ℕ) (s' b' : List ℕ) → Crosses code s' b' x → Crosses code s' b' (unless_faulty f s b x)
-  through z code s' b' h = rw (← e, eq-eqb k 0 z) h
+module _ (k : ℕ) (s s' b b' : List ℕ) where
+  crosses : {A : Type 0} (ok args room : Bool) (a : A) (f : A → Crossing) (r : Result A BoundaryFault) → r ≡ answered_if ok args a → Crosses k s' b' (returned r room f s b)
+      → Crosses k s' b' (unless_faulty (boundary_fault ok args room) s b (f a))
+  crosses ok args room a f r e h = rw (← same ok args room a f s b, ← e) h
 
--- ## The start
+  pub registrar_crosses : (ok args : Bool) (a : RegistrarAnswer) (r : Result RegistrarAnswer BoundaryFault) → r ≡ answered_if ok args a
+      → Crosses k s' b' (returned r (leb registrar_answer_bytes (length b)) (λ x. registrar_written x s b) s b) → Crosses k s' b' (registrar_answered ok args a s b)
+  unfolding registrar_answered
+  registrar_crosses ok args a r e h = crosses ok args (leb registrar_answer_bytes (length b)) a (λ x. registrar_written x s b) r e h
 
-module _ (a : EndEntityAnswer) (s b : List ℕ) {s' b' : List ℕ} (code : ℕ) (e : code ≡ outcome_number a.outcome) (h : b' ≡ pack_at 0 end_entity_answer_bytes (pack_end_entity_answer a) b) where
-  pub start-done : code ≡ 0 → s' ≡ pack_enrolment_in a.enrolment s → Crosses code s' b' (start_written a s b)
-  start-done z k = record { code_is = e; state-is = rw (eq-eqb (outcome_number a.outcome) 0 (sym e ∙ z)) k; answer-is = h }
+  pub end_entity_crosses : (ok args : Bool) (a : EndEntityAnswer) (r : Result EndEntityAnswer BoundaryFault) → r ≡ answered_if ok args a
+      → Crosses k s' b' (returned r (leb end_entity_answer_bytes (length b)) (λ x. end_entity_written x s b) s b) → Crosses k s' b' (end_entity_answered ok args a s b)
+  unfolding end_entity_answered
+  end_entity_crosses ok args a r e h = crosses ok args (leb end_entity_answer_bytes (length b)) a (λ x. end_entity_written x s b) r e h
 
-  pub start-refused : (code ≡ 0 → ⊥) → s' ≡ s → Crosses code s' b' (start_written a s b)
-  start-refused d k = record { code_is = e; state-is = rw (ne_eqb (outcome_number a.outcome) 0 (λ z. d (e ∙ z))) k; answer-is = h }
+  pub start_crosses : (args : Bool) (a : EndEntityAnswer) (r : Result EndEntityAnswer BoundaryFault) → r ≡ answered_if (eqb (length s) enrolment_bytes) args a
+      → Crosses k s' b' (returned r (leb end_entity_answer_bytes (length b)) (λ x. start_written x s b) s b) → Crosses k s' b' (start_crossing args a s b)
+  unfolding start_crossing
+  start_crosses args a r e h = crosses (eqb (length s) enrolment_bytes) args (leb end_entity_answer_bytes (length b)) a (λ x. start_written x s b) r e h

@@ -1,13 +1,15 @@
 -- The calls of both ends over lent bytes: what the bytes stand for goes into the call, and its answer goes back into bytes.
-use Rattle.std.specs.Prelude.{ℕ, List, Bool, cond, ◌≡◌, length, eqb, leb, Some, None}
+use Rattle.std.specs.Prelude.{ℕ, List, Bool, cond, ◌≡◌, length, eqb, leb, Some, None, is_some, Result, Ok, Err}
 use Rattle.protocol.specs.Types.{Verdict}
 use Rattle.protocol.specs.declared.TransactionTable.{TransactionTable}
 use Rattle.protocol.specs.declared.Enrolment.{Enrolment}
 use Rattle.protocol.specs.declared.RegistrarAnswer.{RegistrarAnswer}
 use Rattle.protocol.specs.declared.EndEntityAnswer.{EndEntityAnswer}
+use Rattle.duskstall.specs.declared.boundary.BoundaryFault.{BoundaryFault}
+use Rattle.duskstall.specs.declared.boundary.BoundaryFault.TheVariants.{NoState, Argument, NoRoom}
 use Rattle.packed.specs.Bytes.{pack_at}
-use Rattle.packed.specs.Table.{unpack_table, pack_table_in}
-use Rattle.packed.specs.Enrolment.{enrolment_bytes, unpack_enrolment, pack_enrolment_in}
+use Rattle.packed.specs.Table.{unpack_table, table_held, pack_table_in}
+use Rattle.packed.specs.Enrolment.{enrolment_bytes, unpack_enrolment, enrolment_held, pack_enrolment_in}
 use Rattle.packed.specs.Answer.{outcome_number, registrar_answer_bytes, pack_registrar_answer, end_entity_answer_bytes, pack_end_entity_answer}
 
 -- the number that is returned, the state's bytes and the answer's bytes after a call
@@ -27,6 +29,15 @@ pub record Crosses (code : ℕ) (state answer : List ℕ) (x : Crossing) : Type 
 abbrev pub boundary_fault : (ok args room : Bool) → ℕ
 boundary_fault ok args room = cond ok (cond args (cond room 0 253) 252) 251
 
+abbrev pub fault_number : BoundaryFault → ℕ
+fault_number NoState = 251
+fault_number Argument = 252
+fault_number NoRoom = 253
+
+-- what a call answers, unless there is no state, or an argument has another length
+abbrev pub answered_if : {A : Type 0} → (ok args : Bool) → A → Result A BoundaryFault
+answered_if ok args a = cond ok (cond args (Ok a) (Err Argument)) (Err NoState)
+
 -- nothing changes
 abbrev pub untouched : ℕ → (state answer : List ℕ) → Crossing
 untouched k s a = record { code = k; state = s; answer = a }
@@ -34,6 +45,11 @@ untouched k s a = record { code = k; state = s; answer = a }
 -- what a call does, unless the bytes are at fault
 abbrev pub unless_faulty : ℕ → (state answer : List ℕ) → Crossing → Crossing
 unless_faulty k s a x = cond (eqb k 0) x (untouched k s a)
+
+-- likewise, of an answer or of a fault found before
+abbrev pub returned : {A : Type 0} → Result A BoundaryFault → (room : Bool) → (A → Crossing) → (state answer : List ℕ) → Crossing
+returned (Ok a) room f s b = cond room (f a) (untouched (fault_number NoRoom) s b)
+returned (Err e) room f s b = untouched (fault_number e) s b
 
 -- ## The registrar
 
@@ -46,7 +62,7 @@ registrar_answered ok args a s b = unless_faulty (boundary_fault ok args (leb re
 
 -- a call of the registrar on the table that the bytes stand for
 abbrev pub registrar_crossing : (args : Bool) → (TransactionTable → RegistrarAnswer) → (state answer : List ℕ) → Crossing
-registrar_crossing args f s b = registrar_answered (unpack_table s).ok args (f (unpack_table s).table) s b
+registrar_crossing args f s b = registrar_answered (is_some (unpack_table s)) args (f (table_held s)) s b
 
 -- ## The end entity
 
@@ -59,7 +75,7 @@ end_entity_answered ok args a s b = unless_faulty (boundary_fault ok args (leb e
 
 -- a call of an end entity on the enrolment that the bytes stand for
 abbrev pub end_entity_crossing : (args : Bool) → (Enrolment → EndEntityAnswer) → (state answer : List ℕ) → Crossing
-end_entity_crossing args f s b = end_entity_answered (unpack_enrolment s).ok args (f (unpack_enrolment s).enrolment) s b
+end_entity_crossing args f s b = end_entity_answered (is_some (unpack_enrolment s)) args (f (enrolment_held s)) s b
 
 -- where a start is refused, the bytes stay
 abbrev pub start_written : EndEntityAnswer → (state answer : List ℕ) → Crossing

@@ -1,59 +1,85 @@
 // What both ends' calls share at the boundary: faults of the lent bytes, values from numbers, answers into bytes.
-ghost use Rattle.std.specs.Prelude.{◌≡◌, ◌&&◌};
-ghost use Rattle.packed.specs.Answer.{outcome_number};
-ghost use Rattle.duskstall.specs.Boundary.{Crosses, boundary_fault, registrar_answered, end_entity_answered, start_crossing, yes, verdict_of};
+ghost use Rattle.std.specs.Prelude.{◌≡◌, cond, is_some, Ok, Err, length, leb};
+ghost use Rattle.std.specs.Option.{ok_or};
+ghost use Rattle.packed.specs.Arrays.{unpack};
+ghost use Rattle.packed.specs.Table.{unpack_table};
+ghost use Rattle.packed.specs.Enrolment.{unpack_enrolment};
+ghost use Rattle.packed.specs.Answer.{outcome_number, registrar_answer_bytes, end_entity_answer_bytes};
+ghost use Rattle.duskstall.specs.declared.boundary.BoundaryFault.TheVariants.{NoState, Argument};
+ghost use Rattle.duskstall.specs.Calls.{id_of, fresh_of, hash_of};
+ghost use Rattle.duskstall.specs.Boundary.{Crosses, fault_number, returned, registrar_written, end_entity_written, start_written, yes, verdict_of};
 
 use packed::answer::{
-    END_ENTITY_ANSWER_BYTES, REGISTRAR_ANSWER_BYTES, pack_end_entity_answer, pack_registrar_answer,
+    END_ENTITY_ANSWER_BYTES, REGISTRAR_ANSWER_BYTES, outcome_number, pack_end_entity_answer,
+    pack_registrar_answer,
 };
-use packed::arrays::{Unpacked16, Unpacked32};
-use packed::enrolment::{ENROLMENT_BYTES, pack_enrolment};
-use packed::table::pack_table;
+use packed::arrays::unpack;
+use packed::enrolment::{pack_enrolment, unpack_enrolment};
+use packed::table::{pack_table, unpack_table};
 use protocol::{
-    Board, EndEntityAnswer, FreshNonce, Hash, Outcome, RegistrarAnswer, TransactionId, Verdict,
+    Board, EndEntityAnswer, Enrolment, FreshNonce, Hash, Outcome, RegistrarAnswer, TransactionId,
+    TransactionTable, Verdict,
 };
 
-pub(crate) fn id_from(u: Unpacked16) -> TransactionId
-    ensures { result ≡ record { bytes = u.bytes } }
-{
-    let bytes = u.bytes;
-    TransactionId { bytes }
+// Why a call is not made, and nothing changes: no state, a length of what is handed in, no room for the answer. The first that applies is told.
+#[derive(Clone, Copy, PartialEq, Eq, Debug)]
+pub enum BoundaryFault {
+    NoState,
+    Argument,
+    NoRoom,
 }
 
-pub(crate) fn fresh_from(u: Unpacked16) -> FreshNonce
-    ensures { result ≡ record { bytes = u.bytes } }
-{
-    let bytes = u.bytes;
-    FreshNonce { bytes }
-}
-
-pub(crate) fn hash_from(u: Unpacked32) -> Hash
-    ensures { result ≡ record { bytes = u.bytes } }
-{
-    let bytes = u.bytes;
-    Hash { bytes }
-}
-
-// The lowest number that applies: 251 no state, 252 a length of what is handed in, 253 no room; 0 none.
-fn boundary_fault(ok: bool, args: bool, room: bool) -> u64
-    ensures { result ≡ boundary_fault ok args room }
-{
-    if ok {
-        if args {
-            if room {
-                return 0;
-            }
-            return 253;
+impl BoundaryFault {
+    // The numbers are the C interface.
+    pub(crate) fn number(self) -> u64
+        ensures { result ≡ fault_number self }
+    {
+        match self {
+            BoundaryFault::NoState => 251,
+            BoundaryFault::Argument => 252,
+            BoundaryFault::NoRoom => 253,
         }
-        return 252;
     }
-    251
 }
 
-pub(crate) fn both(a: bool, b: bool) -> bool
-    ensures { result ≡ (a && b) }
+pub(crate) fn table_in(bytes: &[u8]) -> Result<TransactionTable, BoundaryFault>
+    ensures { result ≡ ok_or (unpack_table bytes.now) NoState }
 {
-    if a { b } else { false }
+    unpack_table(bytes).ok_or(BoundaryFault::NoState)
+}
+
+pub(crate) fn enrolment_in(bytes: &[u8]) -> Result<Enrolment, BoundaryFault>
+    ensures { result ≡ ok_or (unpack_enrolment bytes.now) NoState }
+{
+    unpack_enrolment(bytes).ok_or(BoundaryFault::NoState)
+}
+
+// The bytes of an id, a nonce or a hash.
+fn argument<const N: usize>(bytes: &[u8]) -> Result<[u8; N], BoundaryFault>
+    ensures { result ≡ ok_or (unpack N bytes.now) Argument }
+{
+    unpack(bytes).ok_or(BoundaryFault::Argument)
+}
+
+pub(crate) fn id_in(bytes: &[u8]) -> Result<TransactionId, BoundaryFault>
+    ensures { result ≡ cond (is_some (unpack 16 bytes.now)) (Ok (id_of bytes.now)) (Err Argument) }
+{
+    let bytes = argument(bytes)?;
+    Ok(TransactionId { bytes })
+}
+
+pub(crate) fn fresh_in(bytes: &[u8]) -> Result<FreshNonce, BoundaryFault>
+    ensures { result ≡ cond (is_some (unpack 16 bytes.now)) (Ok (fresh_of bytes.now)) (Err Argument) }
+{
+    let bytes = argument(bytes)?;
+    Ok(FreshNonce { bytes })
+}
+
+pub(crate) fn hash_in(bytes: &[u8]) -> Result<Hash, BoundaryFault>
+    ensures { result ≡ cond (is_some (unpack 32 bytes.now)) (Ok (hash_of bytes.now)) (Err Argument) }
+{
+    let bytes = argument(bytes)?;
+    Ok(Hash { bytes })
 }
 
 // 1 is yes, every other number no, so that -1, by which others tell a failure, is not good.
@@ -68,83 +94,71 @@ pub(crate) fn yes(n: u8) -> bool
 pub(crate) fn verdict_of(good: u8, board: u16) -> Verdict
     ensures { result ≡ verdict_of good board }
 {
-    if good == YES {
-        return Some(Board(board));
-    }
-    None
+    yes(good).then_some(Board(board))
 }
 
 fn outcome_code(o: Outcome) -> u64
     ensures { result ≡ outcome_number o }
 {
-    match o {
-        Outcome::Done => 0,
-        Outcome::Again => 1,
-        Outcome::Refused(_, _) => 2,
-    }
+    u64::from(outcome_number(o))
 }
 
-// The registrar's answer into the lent bytes, unless these are at fault. `ok`: they were a table; `args`: what was handed in has its
-// lengths.
+// The registrar's answer into the lent bytes, unless there is none or no room for it.
 pub(crate) fn registrar_answered(
     table: &mut [u8],
     answer: &mut [u8],
-    ok: bool,
-    args: bool,
-    a: RegistrarAnswer,
+    answered: Result<RegistrarAnswer, BoundaryFault>,
 ) -> u64
-    ensures { Crosses result table.new answer.new (registrar_answered ok args a table.old answer.old) }
+    ensures { Crosses result table.new answer.new (returned answered (leb registrar_answer_bytes (length answer.old)) (λ a. registrar_written a table.old answer.old) table.old answer.old) }
 {
-    let fault = boundary_fault(ok, args, REGISTRAR_ANSWER_BYTES <= answer.len());
-    if fault != 0 {
-        return fault;
+    match answered {
+        Ok(a) if REGISTRAR_ANSWER_BYTES <= answer.len() => {
+            pack_table(table, a.table);
+            pack_registrar_answer(answer, a);
+            outcome_code(a.outcome)
+        }
+        Ok(_) => BoundaryFault::NoRoom.number(),
+        Err(fault) => fault.number(),
     }
-    let outcome = a.outcome;
-    pack_table(table, a.table);
-    pack_registrar_answer(answer, a);
-    outcome_code(outcome)
 }
 
-// The end entity's answer into the lent bytes, unless these are at fault. `ok`: they were an enrolment.
+// The end entity's answer into the lent bytes, likewise.
 pub(crate) fn end_entity_answered(
     enrolment: &mut [u8],
     answer: &mut [u8],
-    ok: bool,
-    args: bool,
-    a: EndEntityAnswer,
+    answered: Result<EndEntityAnswer, BoundaryFault>,
 ) -> u64
-    ensures { Crosses result enrolment.new answer.new (end_entity_answered ok args a enrolment.old answer.old) }
+    ensures { Crosses result enrolment.new answer.new (returned answered (leb end_entity_answer_bytes (length answer.old)) (λ a. end_entity_written a enrolment.old answer.old) enrolment.old answer.old) }
 {
-    let fault = boundary_fault(ok, args, END_ENTITY_ANSWER_BYTES <= answer.len());
-    if fault != 0 {
-        return fault;
+    match answered {
+        Ok(a) if END_ENTITY_ANSWER_BYTES <= answer.len() => {
+            pack_enrolment(enrolment, a.enrolment);
+            pack_end_entity_answer(answer, a);
+            outcome_code(a.outcome)
+        }
+        Ok(_) => BoundaryFault::NoRoom.number(),
+        Err(fault) => fault.number(),
     }
-    let outcome = a.outcome;
-    pack_enrolment(enrolment, a.enrolment);
-    pack_end_entity_answer(answer, a);
-    outcome_code(outcome)
 }
 
-// A start's answer, likewise: the bytes only need an enrolment's length, and a refused start gives no enrolment.
+// A start's answer, likewise, but that a refused start gives no enrolment.
 pub(crate) fn start_answered(
     enrolment: &mut [u8],
     answer: &mut [u8],
-    args: bool,
-    a: EndEntityAnswer,
+    answered: Result<EndEntityAnswer, BoundaryFault>,
 ) -> u64
-    ensures { Crosses result enrolment.new answer.new (start_crossing args a enrolment.old answer.old) }
+    ensures { Crosses result enrolment.new answer.new (returned answered (leb end_entity_answer_bytes (length answer.old)) (λ a. start_written a enrolment.old answer.old) enrolment.old answer.old) }
 {
-    let room = END_ENTITY_ANSWER_BYTES <= answer.len();
-    let fault = boundary_fault(enrolment.len() == ENROLMENT_BYTES, args, room);
-    if fault != 0 {
-        return fault;
+    match answered {
+        Ok(started) if END_ENTITY_ANSWER_BYTES <= answer.len() => {
+            pack_end_entity_answer(answer, started);
+            let code = outcome_code(started.outcome);
+            if code == 0 {
+                pack_enrolment(enrolment, started.enrolment);
+            }
+            code
+        }
+        Ok(_) => BoundaryFault::NoRoom.number(),
+        Err(fault) => fault.number(),
     }
-    let outcome = a.outcome;
-    let code = outcome_code(outcome);
-    pack_end_entity_answer(answer, a);
-    if code == 0 {
-        pack_enrolment(enrolment, a.enrolment);
-        return code;
-    }
-    code
 }

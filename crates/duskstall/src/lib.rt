@@ -39,29 +39,16 @@ pub fn duskstall_read(message: &[u8], fields: &mut [u64]) -> u64
 pub fn duskstall_size(what: u8) -> u64
     ensures { result ≡ lent_size what }
 {
-    if what == 0 {
-        return TABLE_BYTES as u64;
+    // the numbers are the C interface
+    match what {
+        0 => TABLE_BYTES as u64,
+        1 => ENROLMENT_BYTES as u64,
+        2 => REGISTRAR_ANSWER_BYTES as u64,
+        3 => END_ENTITY_ANSWER_BYTES as u64,
+        4 => FIELDS as u64,
+        5 => MAX_MESSAGE as u64,
+        6 => GIVEN as u64,
+        7 => OUTGOING_BYTES as u64,
+        _ => 0,
     }
-    if what == 1 {
-        return ENROLMENT_BYTES as u64;
-    }
-    if what == 2 {
-        return REGISTRAR_ANSWER_BYTES as u64;
-    }
-    if what == 3 {
-        return END_ENTITY_ANSWER_BYTES as u64;
-    }
-    if what == 4 {
-        return FIELDS as u64;
-    }
-    if what == 5 {
-        return MAX_MESSAGE as u64;
-    }
-    if what == 6 {
-        return GIVEN as u64;
-    }
-    if what == 7 {
-        return OUTGOING_BYTES as u64;
-    }
-    0
 }

@@ -2,7 +2,6 @@
 ghost use Rattle.std.specs.Prelude.{◌≡◌};
 ghost use Rattle.duskstall.specs.Write.{not_written, written_number, write_number, write_buffer};
 
-use crate::boundary::both;
 use given::numbers::{GIVEN, spans_of};
 use packed::outgoing::unpack_outgoing;
 use writer::{Written, write};
@@ -11,7 +10,7 @@ use writer::{Written, write};
 fn not_written(number: u8) -> u64
     ensures { result ≡ not_written number }
 {
-    number as u64 * 4294967296
+    u64::from(number) * 4294967296
 }
 
 fn written_number(w: Written) -> u64
@@ -25,6 +24,7 @@ fn written_number(w: Written) -> u64
 
 // Writes the message that `outgoing` holds, as an answer hands it out, with the parts of `source` that `given` names, as the first bytes of
 // `buffer`. Answers its size; or, in the high 32 bits, why nothing is changed: 252 for a length of `outgoing` or `given`, else the refusal.
+#[tactic(auto, unfolding(crate::specs::Write::write_number, crate::specs::Write::write_buffer))]
 pub fn duskstall_write(
     outgoing: &[u8],
     version: u32,
@@ -34,11 +34,10 @@ pub fn duskstall_write(
 ) -> u64
     ensures { (result ≡ write_number outgoing.now version given.now source.now buffer.old) × (buffer.new ≡ write_buffer outgoing.now version given.now source.now buffer.old) }
 {
-    let o = unpack_outgoing(outgoing);
-    if both(o.ok, given.len() == GIVEN) {
-        let g = spans_of(version, given);
-        let w = write(o.outgoing, g, source, buffer);
-        return written_number(w);
+    match unpack_outgoing(outgoing) {
+        Some(order) if given.len() == GIVEN => {
+            written_number(write(order, spans_of(version, given), source, buffer))
+        }
+        _ => not_written(252),
     }
-    not_written(252)
 }

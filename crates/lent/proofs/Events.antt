@@ -1,4 +1,5 @@
 -- What a call that was made returned stands in its answer's first byte, and the ids that it was handed have their length.
+use Rattle.std.specs.Prelude.{is_some}
 use Prim.Native.Nat.{ℕ}
 use mathlib.Core.List.{List, [], ◌∷◌}
 use mathlib.Core.Bool.{Bool, true, ◌&&◌}
@@ -12,11 +13,11 @@ use Rattle.protocol.specs.declared.Enrolment.{Enrolment}
 use Rattle.protocol.specs.declared.RegistrarAnswer.{RegistrarAnswer}
 use Rattle.protocol.specs.declared.EndEntityAnswer.{EndEntityAnswer}
 use Rattle.protocol.specs.EndEntity.{end_entity_start}
-use Rattle.packed.specs.Arrays.{unpack16}
+use Rattle.packed.specs.Arrays.{unpack}
 use Rattle.packed.specs.Places.{answer_code_at}
 use Rattle.packed.specs.Answer.{registrar_answer_bytes, end_entity_answer_bytes}
-use Rattle.packed.specs.Table.{unpack_table, TableSized}
-use Rattle.packed.specs.Enrolment.{enrolment_bytes, unpack_enrolment, EnrolmentSized}
+use Rattle.packed.specs.Table.{unpack_table, table_held, TableSized}
+use Rattle.packed.specs.Enrolment.{enrolment_bytes, unpack_enrolment, enrolment_held, EnrolmentSized}
 use Rattle.packed.proofs.AnswerInverse.{registrar_code_at, end_entity_code_at}
 use Rattle.packed.proofs.TableInverse.{table_sized}
 use Rattle.packed.proofs.EnrolmentInverse.{enrolment_sized}
@@ -40,15 +41,15 @@ registrar_plain : (p : Bool) (f : TransactionTable → RegistrarAnswer) (s b : L
     → is_made (registrar_crossing p f s b).code ≡ true → Plain p (registrar_crossing p f s b)
 unfolding registrar_answered
 registrar_plain p f s b sized =
-    let a : RegistrarAnswer = f (unpack_table s).table in
-    made_of (Plain p) (unpack_table s).ok p (leb registrar_answer_bytes (length b)) s b (registrar_written a s b) (λ o q r. record { code = registrar_code_at a b (sized (unpack_table s).table (table_sized s o)).outgoing r; args = q })
+    let a : RegistrarAnswer = f (table_held s) in
+    made_of (Plain p) (is_some (unpack_table s)) p (leb registrar_answer_bytes (length b)) s b (registrar_written a s b) (λ o q r. record { code = registrar_code_at a b (sized (table_held s) (table_sized s o)).outgoing r; args = q })
 
 board-plain : (p : Bool) (f : Enrolment → EndEntityAnswer) (s b : List ℕ) → ((x : Enrolment) → EnrolmentSized x → EndEntitySized (f x))
     → is_made (end_entity_crossing p f s b).code ≡ true → Plain p (end_entity_crossing p f s b)
 unfolding end_entity_answered
 board-plain p f s b sized =
-    let a : EndEntityAnswer = f (unpack_enrolment s).enrolment in
-    made_of (Plain p) (unpack_enrolment s).ok p (leb end_entity_answer_bytes (length b)) s b (end_entity_written a s b) (λ o q r. record { code = end_entity_code_at a b (sized (unpack_enrolment s).enrolment (enrolment_sized s o)).outgoing r; args = q })
+    let a : EndEntityAnswer = f (enrolment_held s) in
+    made_of (Plain p) (is_some (unpack_enrolment s)) p (leb end_entity_answer_bytes (length b)) s b (end_entity_written a s b) (λ o q r. record { code = end_entity_code_at a b (sized (enrolment_held s) (enrolment_sized s o)).outgoing r; args = q })
 
 start_plain : (p : Bool) (a : EndEntityAnswer) (s b : List ℕ) → EndEntitySized a → is_made (start_crossing p a s b).code ≡ true → Plain p (start_crossing p a s b)
 unfolding start_crossing
@@ -79,8 +80,8 @@ plain w (AtEndEntity k c b) m =
     let h : Plain f.args (end_entity_crosses c s b) = subst (Plain f.args) (sym e) (board-plain f.args (end_entity_answers c) s b f.sized (subst (λ (x : Crossing). is_made x.code ≡ true) e m)) in
     (h.code, tt)
 plain w (EndEntityStart d s k i n b) m =
-    let h : Plain ((unpack16 i).ok && (unpack16 n).ok) (crossing w (EndEntityStart d s k i n b)) = start_plain ((unpack16 i).ok && (unpack16 n).ok) (end_entity_start k (id_of i) (fresh_of n)) s b (start_sized k (id_of i) (fresh_of n) (sixteen_in i) (sixteen_in n)) m in
-    (h.code, length_16 i (and_left (unpack16 i).ok (unpack16 n).ok h.args))
+    let h : Plain (is_some (unpack 16 i) && is_some (unpack 16 n)) (crossing w (EndEntityStart d s k i n b)) = start_plain (is_some (unpack 16 i) && is_some (unpack 16 n)) (end_entity_start k (id_of i) (fresh_of n)) s b (start_sized k (id_of i) (fresh_of n) (sixteen_in i) (sixteen_in n)) m in
+    (h.code, length_16 i (and_left (is_some (unpack 16 i)) (is_some (unpack 16 n)) h.args))
 
 -- ## A call adds its event
 

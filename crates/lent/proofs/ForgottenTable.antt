@@ -1,4 +1,5 @@
 -- A host that lends an empty table again.
+use Rattle.std.specs.Prelude.{is_some, Some}
 use Prim.Native.Nat.{ℕ, zero, suc, ◌<◌}
 use mathlib.Core.List.{List, [], ◌∷◌, ◌++◌}
 use mathlib.Core.Bool.{true}
@@ -14,9 +15,8 @@ use Rattle.protocol.specs.declared.TransactionTable.{TransactionTable}
 use Rattle.protocol.specs.Table.{capacity, empty_table, free_transaction, lookup}
 use Rattle.protocol.specs.Registrar.{refused_quietly, registrar_lapse}
 use Rattle.protocol.proofs.Tests.{true_false, none_some, some_some}
-use Rattle.packed.specs.declared.table.UnpackedTable.{UnpackedTable}
 use Rattle.packed.specs.Bytes.{flag_at}
-use Rattle.packed.specs.Arrays.{unpack16}
+use Rattle.packed.specs.Arrays.{unpack}
 use Rattle.packed.specs.Places.{registrar_sends_at}
 use Rattle.packed.specs.Answer.{registrar_answer_bytes}
 use Rattle.packed.specs.Table.{table_bytes, pack_table, unpack_table}
@@ -31,7 +31,7 @@ use Rattle.lent.specs.Witness.{lent_enrols, LentEnds}
 use Rattle.lent.specs.OtherBytes.{HostCall, lent_by, host_calls, host_after, as_left}
 use Rattle.lent.specs.ForgottenTable.{forgetful, NoneCloses, ForgottenTable, PremiseNeeded}
 use Rattle.protocol.specs.Witness.{accept_bytes}
-use Rattle.lent.proofs.Stand.{table_in_lem}
+use Rattle.lent.proofs.Stand.{is_table, held_table, table_in_lem}
 use Rattle.lent.proofs.Sizes.{empty_sized, silent_sized}
 use Rattle.lent.proofs.Places.{row, row-held}
 use Rattle.lent.proofs.Header.{is-confirmed, confirmed-free}
@@ -40,11 +40,11 @@ use Rattle.lent.proofs.OtherBytes.{every_list_as_left}
 
 -- ## The lapse
 
-empty_read : unpack_table (pack_table empty_table) ≡ record { ok = true; table = empty_table }
+empty_read : unpack_table (pack_table empty_table) ≡ Some empty_table
 empty_read = unpack_packed empty_table empty_sized
 
-empty_ok : (unpack_table (pack_table empty_table)).ok ≡ true
-empty_ok = ap (λ (u : UnpackedTable). u.ok) empty_read
+empty_ok : is_some (unpack_table (pack_table empty_table)) ≡ true
+empty_ok = is_table _ empty_read
 
 nothing_there : (i : TransactionId) → lookup empty_table.transactions i ≡ none
 unfolding empty_table lookup
@@ -58,7 +58,7 @@ abbrev ends : Crossing
 ends = registrar_written (refused_quietly 30 empty_table) (pack_table empty_table) (zeros registrar_answer_bytes)
 
 lapse-ends : lapse_crossing (zeros 16) (pack_table empty_table) (zeros registrar_answer_bytes) ≡ ends
-unfolding registrar_answered unpack16
+unfolding registrar_answered unpack
 lapse-ends = rw (empty_read, lapse-refused (id_of (zeros 16)))
 
 state-is : ends.state ≡ pack_table empty_table
@@ -85,7 +85,7 @@ row_is : (p : ℕ) → p < capacity → row (pack_table empty_table) p ≡ free_
 unfolding empty_table
 row_is p h =
     all_same capacity free_transaction p _
-    (subst (λ (t : TransactionTable). get_elem? t.transactions p ≡ some (row (pack_table empty_table) p)) (ap (λ (u : UnpackedTable). u.table) empty_read) (row-held (pack_table empty_table) empty_ok p h))
+    (subst (λ (t : TransactionTable). get_elem? t.transactions p ≡ some (row (pack_table empty_table) p)) (held_table _ empty_read) (row-held (pack_table empty_table) empty_ok p h))
 
 none-confirmed : (p : ℕ) → p < capacity → transaction_state p (pack_table empty_table) ≡ 3 → ⊥
 none-confirmed p h e = confirmed-free (sym (is-confirmed (pack_table empty_table) p e) ∙ ap (λ (r : Transaction). r.state) (row_is p h))

@@ -1,4 +1,5 @@
 -- Every exported call in one form: what it asks of its arrays, and what is proved of its answer on values. A call that joins the list adds one here.
+use Rattle.std.specs.Prelude.{Option, is_some}
 use Prim.Native.Nat.{ℕ}
 use mathlib.Core.List.{List}
 use mathlib.Core.Bool.{Bool, true, false, ◌&&◌}
@@ -18,8 +19,7 @@ use Rattle.protocol.specs.Run.{TheRegistrar, OneBoard, World, step, registrar_di
 use Rattle.protocol.proofs.Tests.{true_false, none_some, some_some, cases}
 use Rattle.protocol.proofs.RegistrarPromises as at_registrar
 use Rattle.protocol.proofs.EndEntityPromises as at_board
-use Rattle.packed.specs.declared.arrays.Unpacked16.{Unpacked16}
-use Rattle.packed.specs.Arrays.{unpack16, unpack32}
+use Rattle.packed.specs.Arrays.{unpack}
 use Rattle.packed.specs.Table.{TableSized}
 use Rattle.packed.specs.Enrolment.{EnrolmentSized}
 use Rattle.duskstall.specs.Boundary.{registrar_crossing, end_entity_crossing, yes, verdict_of}
@@ -38,17 +38,17 @@ use Rattle.lent.proofs.EndEntitySizes.{EndEntitySized}
 
 -- ## Lengths, as tests
 
-pub ok_16 : (s : List ℕ) → length s ≡ 16 → (unpack16 s).ok ≡ true
-unfolding unpack16
+pub ok_16 : (s : List ℕ) → length s ≡ 16 → is_some (unpack 16 s) ≡ true
+unfolding unpack
 ok_16 s e = rw (eq-eqb (length s) 16 e)
 
-ok_32 : (s : List ℕ) → length s ≡ 32 → (unpack32 s).ok ≡ true
-unfolding unpack32
+ok_32 : (s : List ℕ) → length s ≡ 32 → is_some (unpack 32 s) ≡ true
+unfolding unpack
 ok_32 s e = rw (eq-eqb (length s) 32 e)
 
-pub length_16 : (s : List ℕ) → (unpack16 s).ok ≡ true → length s ≡ 16
-unfolding unpack16
-length_16 s = cases (λ (u : Unpacked16). u.ok ≡ true → length s ≡ 16) (eqb (length s) 16) _ _ (λ e _. eqb-true _ _ e) (λ _ q. true_false (sym q))
+pub length_16 : (s : List ℕ) → is_some (unpack 16 s) ≡ true → length s ≡ 16
+unfolding unpack
+length_16 s = cases (λ (u : Option (List ℕ)). is_some u ≡ true → length s ≡ 16) (eqb (length s) 16) _ _ (λ e _. eqb-true _ _ e) (λ _ q. true_false (sym q))
 
 pub and : {a b : Bool} → a ≡ true → b ≡ true → (a && b) ≡ true
 and {a} {b} p q = rw (p, q)
@@ -85,7 +85,7 @@ pub registrar_form : (c : RegistrarCall) → RegistrarForm c
 unfolding step
 registrar_form (RegistrarMessage bytes g b n) =
     record {
-      args = (unpack16 n).ok;
+      args = is_some (unpack 16 n);
       crosses = λ _ _. refl;
       steps = λ _. refl;
       promise = λ t. at_registrar.message-promise t (registrar_input g b n) bytes;
@@ -96,7 +96,7 @@ registrar_form (RegistrarMessage bytes g b n) =
     }
 registrar_form (RegistrarIssue i n h) =
     record {
-      args = (unpack16 i).ok && ((unpack16 n).ok && (unpack32 h).ok);
+      args = is_some (unpack 16 i) && (is_some (unpack 16 n) && is_some (unpack 32 h));
       crosses = λ _ _. refl;
       steps = λ _. refl;
       promise = λ t. at_registrar.issue-promise t (id_of i) (fresh_of n) (hash_of h);
@@ -107,7 +107,7 @@ registrar_form (RegistrarIssue i n h) =
     }
 registrar_form (RegistrarRefuse i n) =
     record {
-      args = (unpack16 i).ok && (unpack16 n).ok;
+      args = is_some (unpack 16 i) && is_some (unpack 16 n);
       crosses = λ _ _. refl;
       steps = λ _. refl;
       promise = λ t. at_registrar.refuse-promise t (id_of i) (fresh_of n);
@@ -118,7 +118,7 @@ registrar_form (RegistrarRefuse i n) =
     }
 registrar_form (RegistrarLapse i) =
     record {
-      args = (unpack16 i).ok;
+      args = is_some (unpack 16 i);
       crosses = λ _ _. refl;
       steps = λ _. refl;
       promise = λ t. at_registrar.lapse-promise t (id_of i);
@@ -129,7 +129,7 @@ registrar_form (RegistrarLapse i) =
     }
 registrar_form (RegistrarClose i) =
     record {
-      args = (unpack16 i).ok;
+      args = is_some (unpack 16 i);
       crosses = λ _ _. refl;
       steps = λ _. refl;
       promise = λ t. at_registrar.close-promise t (id_of i);
@@ -154,7 +154,7 @@ pub end_entity_form : (c : EndEntityCall) → EndEntityForm c
 unfolding step
 end_entity_form (EndEntityMessage bytes g a h n) =
     record {
-      args = (unpack32 h).ok && (unpack16 n).ok;
+      args = is_some (unpack 32 h) && is_some (unpack 16 n);
       crosses = λ _ _. refl;
       steps = λ _ _. refl;
       promise = λ x. at_board.message-promise x (end_entity_input g a h n) bytes;

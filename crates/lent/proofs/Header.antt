@@ -1,4 +1,5 @@
 -- Demand 3 at the places of the C header: what it claims holds of the bytes.
+use Rattle.std.specs.Prelude.{is_some}
 use Prim.Native.Nat.{ℕ, ◌-◌, ◌<◌}
 use mathlib.Core.List.{List, [], ◌∷◌}
 use mathlib.Core.Bool.{true}
@@ -23,7 +24,7 @@ use Rattle.packed.specs.Outgoing.{outgoing_of}
 use Rattle.packed.specs.Table as table
 use Rattle.packed.specs.Enrolment as enrolment
 use Rattle.packed.specs.Table.{unpack_table}
-use Rattle.packed.specs.Enrolment.{unpack_enrolment}
+use Rattle.packed.specs.Enrolment.{unpack_enrolment, enrolment_held}
 use Rattle.lent.specs.Lent.{LentEnrolment, LentEvent, LentWorld, is_made, event_of, events_of, EnrolmentsOk, TablesOk, world_of, lent_after, lent_beginning}
 use Rattle.lent.specs.Places.{outgoing_recip_nonce, transaction_id, transaction_state, enrolment_id, enrolment_state}
 use Rattle.lent.specs.Header.{IsClose, InSlot, ClosedBytes, SameOutgoing, IsCertConf, SentCertConf, FoundBytes, NeverConfirmed, EnrolmentOf, HeaderAgreement, HeaderDemand3}
@@ -63,7 +64,7 @@ is-declined : (s : List ℕ) (p : ℕ) → transaction_state p s ≡ 4 → (row 
 unfolding table.transaction_state_of
 is-declined s p e = state-at s p ∙ ap table.transaction_state_of e
 
-may_be : (s : List ℕ) → (unpack_enrolment s).ok ≡ true → MayBeSure (unpack_enrolment s).enrolment.state
+may_be : (s : List ℕ) → is_some (unpack_enrolment s) ≡ true → MayBeSure (enrolment_held s).state
     → (enrolment_state s ≡ 3) ⊎ (enrolment_state s ≡ 1) ⊎ (enrolment_state s ≡ 6)
 may_be s o (inl e) = inl (said s o at_board.Sure e)
 may_be s o (inr (inl e)) = inr (inl (said s o at_board.Confirming e))
@@ -77,8 +78,8 @@ never_back i (e ∷ es) o d = (
   never_back i es o.1 (λ x. d (some_later (λ f. SaysConfirmed f.table i) e es x)),
 )
 
-module _ (w : LentWorld) (ok : (unpack_table w.table).ok ≡ true) (all : EnrolmentsOk w.enrolments) (tables : TablesOk w.past) (plain : AllPlain w.past) (a : Agreement (world_of w)) where
-  module _ (e : LentEnrolment) (o : (unpack_enrolment e.bytes).ok ≡ true) where
+module _ (w : LentWorld) (ok : is_some (unpack_table w.table) ≡ true) (all : EnrolmentsOk w.enrolments) (tables : TablesOk w.past) (plain : AllPlain w.past) (a : Agreement (world_of w)) where
+  module _ (e : LentEnrolment) (o : is_some (unpack_enrolment e.bytes) ≡ true) where
     abbrev x : BoardEnrolment
     x = shown e
 
@@ -157,10 +158,10 @@ module _ (w : LentWorld) (ok : (unpack_table w.table).ok ≡ true) (all : Enrolm
   -- the enrolment of a transaction
   of_board : (p : ℕ) → BoardOf (world_of w) (row w.table p).id (row w.table p) → EnrolmentOf w p
   of_board p b =
-      let g : (e : LentEnrolment) × (get_elem? w.enrolments b.place ≡ some e) × (b.held ≡ shown e) × ((unpack_enrolment e.bytes).ok ≡ true) = bytes-held w.enrolments all b.place b.held b.holds in
+      let g : (e : LentEnrolment) × (get_elem? w.enrolments b.place ≡ some e) × (b.held ≡ shown e) × (is_some (unpack_enrolment e.bytes) ≡ true) = bytes-held w.enrolments all b.place b.held b.holds in
       let e : LentEnrolment = g.0 in
       let h : b.held ≡ shown e = g.2 in
-      let o : (unpack_enrolment e.bytes).ok ≡ true = g.3 in
+      let o : is_some (unpack_enrolment e.bytes) ≡ true = g.3 in
       record {
         place = b.place;
         held = e;

@@ -1,4 +1,5 @@
 -- Demand 1 of every exported call, on any bytes.
+use Rattle.std.specs.Prelude.{is_some}
 use Prim.Native.Nat.{ℕ, ◌<◌}
 use mathlib.Core.List.{List, [], ◌∷◌}
 use mathlib.Core.Bool.{Bool, true, false, cond}
@@ -21,8 +22,8 @@ use Rattle.protocol.proofs.Tests.{true_false}
 use Rattle.protocol.proofs.EndEntityPromises.{start-promise, start-never}
 use Rattle.packed.specs.Places.{answer_refusal_at}
 use Rattle.packed.specs.Answer.{outcome_number, registrar_answer_bytes, end_entity_answer_bytes}
-use Rattle.packed.specs.Table.{pack_table, unpack_table, pack_table_in, TableSized}
-use Rattle.packed.specs.Enrolment.{enrolment_bytes, unpack_enrolment, pack_enrolment_in, EnrolmentSized}
+use Rattle.packed.specs.Table.{pack_table, unpack_table, table_held, pack_table_in, TableSized}
+use Rattle.packed.specs.Enrolment.{enrolment_bytes, unpack_enrolment, enrolment_held, pack_enrolment_in, EnrolmentSized}
 use Rattle.packed.proofs.TableInverse as table_inverse
 use Rattle.packed.proofs.EnrolmentInverse as enrolment_inverse
 use Rattle.packed.proofs.AnswerInverse.{registrar_refusal_at, end_entity_refusal_at}
@@ -74,39 +75,39 @@ written R ns s b (Refused n f) s' b' g h = record { code = inr (inr (inl refl));
 
 -- ## The registrar
 
-module _ (ns : List ℕ) (f : TransactionTable → RegistrarAnswer) (promise : (t : TransactionTable) → RegistrarPromise ns t (f t)) (sized : (t : TransactionTable) → TableSized t → RegistrarSized (f t)) (s b : List ℕ) (again : (unpack_table s).ok ≡ true → pack_table (unpack_table s).table ≡ s) where
+module _ (ns : List ℕ) (f : TransactionTable → RegistrarAnswer) (promise : (t : TransactionTable) → RegistrarPromise ns t (f t)) (sized : (t : TransactionTable) → TableSized t → RegistrarSized (f t)) (s b : List ℕ) (again : is_some (unpack_table s) ≡ true → pack_table (table_held s) ≡ s) where
   abbrev t : TransactionTable
-  t = (unpack_table s).table
+  t = table_held s
 
-  same : (u : TransactionTable) → (unpack_table s).ok ≡ true → u ≡ t → pack_table_in u s ≡ s
+  same : (u : TransactionTable) → is_some (unpack_table s) ≡ true → u ≡ t → pack_table_in u s ≡ s
   same u o e = ap (λ (v : TransactionTable). pack_table_in v s) e ∙ table_in_lem s t o ∙ again o
 
-  registrar_written_lem : (unpack_table s).ok ≡ true → leb registrar_answer_bytes (length b) ≡ true → Keeps (Unit {0}) ns s b (registrar_written (f t) s b)
+  registrar_written_lem : is_some (unpack_table s) ≡ true → leb registrar_answer_bytes (length b) ≡ true → Keeps (Unit {0}) ns s b (registrar_written (f t) s b)
   registrar_written_lem o r =
       written (Unit {0}) ns s b (f t).outcome _ _ (λ e. (same _ o ((promise t).again e), tt))
       (λ n q e. (same _ o ((promise t).unchanged n q e), subst (λ (k : ℕ). OneOf k ns) (sym (registrar_refusal_at (f t) b (sized t (table_sized s o)).outgoing r n q e)) ((promise t).number n q e)))
 
   registrar_keeps : (p : Bool) → Keeps (Unit {0}) ns s b (registrar_crossing p f s b)
   unfolding registrar_answered
-  registrar_keeps p = unless_faulty_lem (Unit {0}) ns s b _ (unpack_table s).ok p (leb registrar_answer_bytes (length b)) registrar_written_lem
+  registrar_keeps p = unless_faulty_lem (Unit {0}) ns s b _ (is_some (unpack_table s)) p (leb registrar_answer_bytes (length b)) registrar_written_lem
 
 -- ## An end entity
 
 module _ (ns : List ℕ) (f : Enrolment → EndEntityAnswer) (promise : (x : Enrolment) → EndEntityPromise ns x (f x)) (sized : (x : Enrolment) → EnrolmentSized x → EndEntitySized (f x)) (s b : List ℕ) where
   abbrev x : Enrolment
-  x = (unpack_enrolment s).enrolment
+  x = enrolment_held s
 
-  board-same : (u : Enrolment) → (unpack_enrolment s).ok ≡ true → u ≡ x → pack_enrolment_in u s ≡ s
+  board-same : (u : Enrolment) → is_some (unpack_enrolment s) ≡ true → u ≡ x → pack_enrolment_in u s ≡ s
   board-same u o e = ap (λ (v : Enrolment). pack_enrolment_in v s) e ∙ enrolment_in_lem s x o ∙ enrolment_inverse.pack_unpacked s o
 
-  board-written : (unpack_enrolment s).ok ≡ true → leb end_entity_answer_bytes (length b) ≡ true → Keeps ⊥ ns s b (end_entity_written (f x) s b)
+  board-written : is_some (unpack_enrolment s) ≡ true → leb end_entity_answer_bytes (length b) ≡ true → Keeps ⊥ ns s b (end_entity_written (f x) s b)
   board-written o r =
       written ⊥ ns s b (f x).outcome _ _ (λ e. absurd ((promise x).never e))
       (λ n q e. (board-same _ o ((promise x).unchanged n q e), subst (λ (k : ℕ). OneOf k ns) (sym (end_entity_refusal_at (f x) b (sized x (enrolment_sized s o)).outgoing r n q e)) ((promise x).number n q e)))
 
   board_keeps : (p : Bool) → Keeps ⊥ ns s b (end_entity_crossing p f s b)
   unfolding end_entity_answered
-  board_keeps p = unless_faulty_lem ⊥ ns s b _ (unpack_enrolment s).ok p (leb end_entity_answer_bytes (length b)) board-written
+  board_keeps p = unless_faulty_lem ⊥ ns s b _ (is_some (unpack_enrolment s)) p (leb end_entity_answer_bytes (length b)) board-written
 
 -- ## A start
 
@@ -142,7 +143,7 @@ module _ (w : LentWorld) where
       (start_keeps (end_entity_start k (id_of i) (fresh_of n)) (start_sized k (id_of i) (fresh_of n) (sixteen_in i) (sixteen_in n)) (start-never k (id_of i) (fresh_of n)) (λ m q e. (start-promise k (id_of i) (fresh_of n) m q e).0) s b _)
 
   -- also where the bytes are those of a run, of which nothing is supposed
-  pub promised : ((unpack_table w.table).ok ≡ true → pack_table (unpack_table w.table).table ≡ w.table) → (c : LentCall) → LentPromise w c
+  pub promised : (is_some (unpack_table w.table) ≡ true → pack_table (table_held w.table) ≡ w.table) → (c : LentCall) → LentPromise w c
   promised again (AtRegistrar c b) =
       let f : RegistrarForm c = registrar_form c in
       of_keeps (AtRegistrar c b) (subst (Keeps (Unit {0}) (registrar_refusals c) w.table b) (sym (f.crosses w.table b)) (registrar_keeps (registrar_refusals c) (registrar_answers c) f.promise f.sized w.table b again f.args))

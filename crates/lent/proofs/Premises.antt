@@ -16,7 +16,7 @@ use Rattle.protocol.specs.declared.Outgoing.{Outgoing}
 use Rattle.protocol.specs.Run.{unless_refused}
 use Rattle.protocol.specs.Agreement.{SomeEvent, Issued, SenderIssued, FairEvent, Fair}
 use Rattle.protocol.proofs.Tests.{none_some, some_some, cases}
-use Rattle.packed.specs.Arrays.{unpack16}
+use Rattle.packed.specs.Arrays.{unpack}
 use Rattle.packed.specs.Outgoing.{outgoing_of}
 use Rattle.packed.specs.Places.{answer_code_at}
 use Rattle.packed.specs.Answer.{outcome_of}
@@ -42,7 +42,7 @@ not_refused x j i =
     (λ _. cases (NotRefused (get_or x answer_code_at 0) j i) (eqb (get_or x answer_code_at 0) 1) _ _ (λ e q. (ap (λ (n : ℕ). ltb n 2) (eqb-true (get_or x answer_code_at 0) 1 e), some_some q)) (λ _ q. none_some q))
 
 id-bytes : (j : List ℕ) → length j ≡ 16 → (id_of j).bytes ≡ j
-unfolding unpack16
+unfolding unpack
 id-bytes j e = rw (eq-eqb (length j) 16 e)
 
 named : (x j : List ℕ) (k : ℕ) → get_or x answer_code_at 0 ≡ k → length j ≡ 16 → (i : TransactionId) → unless_refused (outcome_of x) (id_of j) ≡ some i → (ltb k 2 ≡ true) × (j ≡ i.bytes)

@@ -1,5 +1,5 @@
 -- What the steps put into a table, an enrolment or an answer has its size: parts of a message that passed rows 4 and 5, bits, and rows.
-use Rattle.std.specs.Prelude.{Some, None}
+use Rattle.std.specs.Prelude.{Some, None, unwrap_or}
 use Prim.Native.Nat.{ℕ, zero, suc, ◌<◌, ◌≤◌}
 use mathlib.Core.List.{List, [], ◌∷◌}
 use mathlib.Core.Bool.{Bool, true, false, ◌&&◌}
@@ -14,26 +14,24 @@ use Rattle.protocol.specs.Types.{FailureInfo}
 use Rattle.protocol.specs.declared.TransactionId.{TransactionId}
 use Rattle.protocol.specs.declared.Transaction.{Transaction}
 use Rattle.protocol.specs.declared.TransactionTable.{TransactionTable}
-use Rattle.protocol.specs.Bytes.{bytes_of}
+use Rattle.protocol.specs.Bytes.{bytes_of, zeros}
 use Rattle.protocol.specs.Table.{capacity, lookup, slot_of, free_slot, replace, put, is_for, is_free, free_transaction, empty_table}
 use Rattle.protocol.specs.Refusals.{NumberBit, bits, bit_in, bit_of, Row, row, LowestRow, pass, stop, lowest_row, not_sixteen}
 use Rattle.protocol.specs.Outgoing.{silent}
 use Rattle.protocol.proofs.Tests.{true_false, none_some, some_some, cases}
-use Rattle.packed.specs.declared.arrays.Unpacked16.{Unpacked16}
-use Rattle.packed.specs.declared.arrays.Unpacked32.{Unpacked32}
-use Rattle.packed.specs.Arrays.{unpack16, unpack32}
+use Rattle.packed.specs.Arrays.{unpack, bytes_or_zeros}
 use Rattle.packed.specs.Outgoing.{failure_number, failure_of, OutgoingSized}
 use Rattle.packed.specs.Table.{TransactionSized, AllSized, TableSized}
 
 -- ## What is handed in: 16 or 32 bytes, whatever the host lends
 
-pub sixteen_in : (s : List ℕ) → length (unpack16 s).bytes ≡ 16
-unfolding unpack16
-sixteen_in s = cases (λ (u : Unpacked16). length u.bytes ≡ 16) (eqb (length s) 16) _ _ (λ e. eqb-true _ _ e) (λ _. refl)
+pub sixteen_in : (s : List ℕ) → length (bytes_or_zeros 16 s) ≡ 16
+unfolding unpack
+sixteen_in s = cases (λ u. length (unwrap_or u (zeros 16)) ≡ 16) (eqb (length s) 16) _ _ (λ e. eqb-true _ _ e) (λ _. refl)
 
-pub thirty_two_in : (s : List ℕ) → length (unpack32 s).bytes ≡ 32
-unfolding unpack32
-thirty_two_in s = cases (λ (u : Unpacked32). length u.bytes ≡ 32) (eqb (length s) 32) _ _ (λ e. eqb-true _ _ e) (λ _. refl)
+pub thirty_two_in : (s : List ℕ) → length (bytes_or_zeros 32 s) ≡ 32
+unfolding unpack
+thirty_two_in s = cases (λ u. length (unwrap_or u (zeros 32)) ≡ 32) (eqb (length s) 32) _ _ (λ e. eqb-true _ _ e) (λ _. refl)
 
 -- ## The bits: none is 255
 

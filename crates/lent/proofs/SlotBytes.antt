@@ -1,4 +1,5 @@
 -- A registrar's call changes no slot's bytes but those of the slot in its answer.
+use Rattle.std.specs.Prelude.{is_some}
 use Prim.Native.Nat.{ℕ, zero, suc, ◌+◌, ◌*◌}
 use mathlib.Core.List.{List, [], ◌∷◌, ◌++◌}
 use mathlib.Core.Bool.{Bool, true}
@@ -14,10 +15,9 @@ use Rattle.protocol.specs.declared.TransactionTable.{TransactionTable}
 use Rattle.protocol.specs.declared.RegistrarAnswer.{RegistrarAnswer}
 use Rattle.protocol.specs.Promises.{RegistrarPromise}
 use Rattle.protocol.specs.Run.{run}
-use Rattle.packed.specs.declared.table.UnpackedTable.{UnpackedTable}
 use Rattle.packed.specs.Bytes.{part}
 use Rattle.packed.specs.Answer.{registrar_answer_bytes, registrar_answer_of}
-use Rattle.packed.specs.Table.{transaction_bytes, pack_transaction, pack_rows, pack_table, pack_table_in, unpack_table, AllSized, TableSized}
+use Rattle.packed.specs.Table.{transaction_bytes, pack_transaction, pack_rows, pack_table, pack_table_in, unpack_table, table_held, AllSized, TableSized}
 use Rattle.packed.proofs.Parts.{skip}
 use Rattle.packed.proofs.TableInverse.{packed_length, pack_unpacked, table_sized}
 use Rattle.packed.proofs.AnswerInverse.{registrar_back}
@@ -27,7 +27,7 @@ use Rattle.lent.specs.Lent.{LentWorld, is_made, lent_after, lent_beginning, made
 use Rattle.lent.specs.SlotBytes.{slot_bytes, answer_slot, OnlyItsSlot, LentSlots, LentSlotsAfter}
 use Rattle.lent.proofs.RegistrarSizes.{RegistrarSized}
 use Rattle.lent.proofs.Forms.{RegistrarForm, registrar_form}
-use Rattle.lent.proofs.Stand.{Stands, made_of, table_in_lem, table_read, read_table}
+use Rattle.lent.proofs.Stand.{held_table, Stands, made_of, table_in_lem, table_read, read_table}
 use Rattle.lent.proofs.Theorem.{stands}
 
 -- ## The slots of a packed table
@@ -52,20 +52,20 @@ slot_at : (a : RegistrarAnswer) (b s : List ℕ) → registrar_answer_of b s ≡
 unfolding registrar_answer_of
 slot_at a b s e = ap (λ (x : RegistrarAnswer). x.slot.0) e
 
-module _ (s b : List ℕ) (again : (unpack_table s).ok ≡ true → pack_table (unpack_table s).table ≡ s) where
+module _ (s b : List ℕ) (again : is_some (unpack_table s) ≡ true → pack_table (table_held s) ≡ s) where
   module _ (ns : List ℕ) (f : TransactionTable → RegistrarAnswer) (promise : (t : TransactionTable) → RegistrarPromise ns t (f t)) (sized : (t : TransactionTable) → TableSized t → RegistrarSized (f t)) where
     abbrev t : TransactionTable
-    t = (unpack_table s).table
+    t = table_held s
 
     abbrev Only : Crossing → Type 0
     Only x = (p : ℕ) → p ≢ answer_slot x.answer → slot_bytes p x.state ≡ slot_bytes p s
 
-    written : (unpack_table s).ok ≡ true → leb registrar_answer_bytes (length b) ≡ true → Only (registrar_written (f t) s b)
+    written : is_some (unpack_table s) ≡ true → leb registrar_answer_bytes (length b) ≡ true → Only (registrar_written (f t) s b)
     written o r p d =
         let z : RegistrarSized (f t) = sized t (table_sized s o) in
         let after : pack_table_in (f t).table s ≡ pack_table (f t).table = table_in_lem s (f t).table o in
         let slot : answer_slot (registrar_written (f t) s b).answer ≡ (f t).slot.0 =
-        slot_at (f t) _ (pack_table_in (f t).table s) (registrar_back (f t) b z.outgoing r z.outcome z.slot _ (ap (λ (u : UnpackedTable). u.table) (table_read (f t).table z.table after)))
+        slot_at (f t) _ (pack_table_in (f t).table s) (registrar_back (f t) b z.outgoing r z.outcome z.slot _ (held_table _ (table_read (f t).table z.table after)))
         in
         ap (slot_bytes p) after
         ∙ slot_is (f t).table.transactions z.table.each p
@@ -75,11 +75,11 @@ module _ (s b : List ℕ) (again : (unpack_table s).ok ≡ true → pack_table (
 
     only-slot : (p : Bool) → is_made (registrar_crossing p f s b).code ≡ true → Only (registrar_crossing p f s b)
     unfolding registrar_answered
-    only-slot p = made_of Only (unpack_table s).ok p (leb registrar_answer_bytes (length b)) s b (registrar_written (f t) s b) (λ o _ r. written o r)
+    only-slot p = made_of Only (is_some (unpack_table s)) p (leb registrar_answer_bytes (length b)) s b (registrar_written (f t) s b) (λ o _ r. written o r)
 
 -- ## Every call
 
-only : (w : LentWorld) → ((unpack_table w.table).ok ≡ true → pack_table (unpack_table w.table).table ≡ w.table) → OnlyItsSlot w
+only : (w : LentWorld) → (is_some (unpack_table w.table) ≡ true → pack_table (table_held w.table) ≡ w.table) → OnlyItsSlot w
 only w again c b m =
     let f : RegistrarForm c = registrar_form c in
     let e : registrar_crosses c w.table b ≡ registrar_crossing f.args (registrar_answers c) w.table b = f.crosses w.table b in
@@ -92,4 +92,4 @@ lent_slots w all = only w (pack_unpacked w.table all)
 pub lent_slots_after : LentSlotsAfter
 lent_slots_after s e calls =
     let st : Stands (lent_after (lent_beginning s) calls) (run (made (lent_beginning s) calls)) = stands s e calls in
-    only (lent_after (lent_beginning s) calls) (λ _. ap (λ (u : UnpackedTable). pack_table u.table) (read_table st) ∙ sym st.table)
+    only (lent_after (lent_beginning s) calls) (λ _. ap pack_table (held_table _ (read_table st)) ∙ sym st.table)

@@ -1,29 +1,26 @@
 -- Bytes that stand for a run's world: what they are, and what is read out of them.
+use Rattle.std.specs.Prelude.{Some, is_some}
 use Prim.Native.Nat.{ℕ, zero, suc}
 use mathlib.Core.List.{List, [], ◌∷◌, ◌++◌}
 use mathlib.Core.Bool.{Bool, true, false}
 use mathlib.Core.Option.{Option, none, some}
 use mathlib.Core.Path.{◌≡◌, refl, sym, ◌∙◌, ap}
-use lib.ListN.{length, get_or, get_elem?, set}
-use lib.Dec.{eqb, leb, ltb}
+use borrow.Author.Tests.{eq-eqb}
+use lib.ListN.{length, get_elem?, set}
+use lib.Dec.{leb}
 use Rattle.protocol.specs.declared.TransactionTable.{TransactionTable}
 use Rattle.protocol.specs.declared.Enrolment.{Enrolment}
 use Rattle.protocol.specs.declared.Outcome.{Outcome}
 use Rattle.protocol.specs.declared.Outcome.TheVariants.{Done, Again, Refused}
-use Rattle.protocol.specs.Table.{capacity}
 use Rattle.protocol.specs.declared.RegistrarAnswer.{RegistrarAnswer}
 use Rattle.protocol.specs.declared.EndEntityAnswer.{EndEntityAnswer}
 use Rattle.protocol.specs.Run.{World, BoardEnrolment, sent_by}
 use Rattle.protocol.proofs.Tests.{true_false, some_some}
-use Rattle.packed.specs.declared.table.UnpackedTable.{UnpackedTable}
-use Rattle.packed.specs.declared.enrolment.UnpackedEnrolment.{UnpackedEnrolment}
 use Rattle.packed.specs.Bytes.{pack_at}
 use Rattle.packed.specs.Outgoing.{OutgoingSized}
 use Rattle.packed.specs.Answer.{outcome_number, registrar_answer_bytes, pack_registrar_answer, end_entity_answer_bytes, pack_end_entity_answer}
-use Rattle.packed.specs.Table.{table_bytes, states_good, pack_table, unpack_table, pack_table_in, TableSized}
-use Rattle.packed.specs.Places.{enrolment_state_at}
-use Rattle.packed.specs.Enrolment.{enrolment_bytes, pack_enrolment, unpack_enrolment, pack_enrolment_in, EnrolmentSized}
-use Rattle.packed.proofs.Tests.{both}
+use Rattle.packed.specs.Table.{table_bytes, pack_table, unpack_table, table_held, pack_table_in, TableSized}
+use Rattle.packed.specs.Enrolment.{enrolment_bytes, pack_enrolment, unpack_enrolment, enrolment_held, pack_enrolment_in, EnrolmentSized}
 use Rattle.packed.proofs.AnswerInverse.{registrar_sends_back, registrar_outgoing_back, end_entity_sends_back, end_entity_outgoing_back}
 use Rattle.packed.proofs.TableInverse as table_inverse
 use Rattle.packed.proofs.EnrolmentInverse as enrolment_inverse
@@ -86,19 +83,31 @@ set_same (d ∷ es) (suc k) e h = ap (λ l. d ∷ l) (set_same es k e h)
 
 -- ## A table, an enrolment, in bytes
 
-pub table_read : {s : List ℕ} (t : TransactionTable) → TableSized t → s ≡ pack_table t → unpack_table s ≡ record { ok = true; table = t }
+pub is_table : (s : List ℕ) {t : TransactionTable} → unpack_table s ≡ Some t → is_some (unpack_table s) ≡ true
+is_table s e = rw e refl
+
+pub held_table : (s : List ℕ) {t : TransactionTable} → unpack_table s ≡ Some t → table_held s ≡ t
+held_table s e = rw e refl
+
+pub is_enrolment : (s : List ℕ) {x : Enrolment} → unpack_enrolment s ≡ Some x → is_some (unpack_enrolment s) ≡ true
+is_enrolment s e = rw e refl
+
+pub held_enrolment : (s : List ℕ) {x : Enrolment} → unpack_enrolment s ≡ Some x → enrolment_held s ≡ x
+held_enrolment s e = rw e refl
+
+pub table_read : {s : List ℕ} (t : TransactionTable) → TableSized t → s ≡ pack_table t → unpack_table s ≡ Some t
 table_read t z e = ap unpack_table e ∙ table_inverse.unpack_packed t z
 
-pub table_in_lem : (s : List ℕ) (t : TransactionTable) → (unpack_table s).ok ≡ true → pack_table_in t s ≡ pack_table t
-unfolding pack_table_in unpack_table
-table_in_lem s t h = rw (both (λ (u : UnpackedTable). u.ok) _ _ refl (eqb (length s) table_bytes) (states_good capacity s) h).0
+pub table_in_lem : (s : List ℕ) (t : TransactionTable) → is_some (unpack_table s) ≡ true → pack_table_in t s ≡ pack_table t
+unfolding pack_table_in
+table_in_lem s t h = rw (eq-eqb (length s) table_bytes (table_inverse.table_size s h))
 
-pub enrolment_read : {s : List ℕ} (x : Enrolment) → EnrolmentSized x → s ≡ pack_enrolment x → unpack_enrolment s ≡ record { ok = true; enrolment = x }
+pub enrolment_read : {s : List ℕ} (x : Enrolment) → EnrolmentSized x → s ≡ pack_enrolment x → unpack_enrolment s ≡ Some x
 enrolment_read x z e = ap unpack_enrolment e ∙ enrolment_inverse.unpack_packed x z
 
-pub enrolment_in_lem : (s : List ℕ) (x : Enrolment) → (unpack_enrolment s).ok ≡ true → pack_enrolment_in x s ≡ pack_enrolment x
-unfolding pack_enrolment_in unpack_enrolment
-enrolment_in_lem s x h = rw (both (λ (u : UnpackedEnrolment). u.ok) _ _ refl (eqb (length s) enrolment_bytes) (ltb (get_or s enrolment_state_at 0) 7) h).0
+pub enrolment_in_lem : (s : List ℕ) (x : Enrolment) → is_some (unpack_enrolment s) ≡ true → pack_enrolment_in x s ≡ pack_enrolment x
+unfolding pack_enrolment_in
+enrolment_in_lem s x h = rw (eq-eqb (length s) enrolment_bytes (enrolment_inverse.enrolment_size s h))
 
 -- ## What is read out of the bytes
 
@@ -106,7 +115,7 @@ enrolments_ok : (es : List LentEnrolment) (xs : List BoardEnrolment) → AllStan
 enrolments_ok [] [] h = tt
 enrolments_ok [] (x ∷ xs) h = absurd h
 enrolments_ok (e ∷ es) [] h = absurd h
-enrolments_ok (e ∷ es) (x ∷ xs) h = (ap (λ (u : UnpackedEnrolment). u.ok) (enrolment_read x.enrolment h.0.sized h.0.bytes), enrolments_ok es xs h.1)
+enrolments_ok (e ∷ es) (x ∷ xs) h = (is_enrolment _ (enrolment_read x.enrolment h.0.sized h.0.bytes), enrolments_ok es xs h.1)
 
 enrolments-back : (es : List LentEnrolment) (xs : List BoardEnrolment) → AllStand es xs → enrolments_of es ≡ xs
 unfolding enrolments_of
@@ -116,11 +125,11 @@ enrolments-back (e ∷ es) [] h = absurd h
 enrolments-back (e ∷ es) (x ∷ xs) h = rw (h.0.board, enrolment_read x.enrolment h.0.sized h.0.bytes, enrolments-back es xs h.1)
 
 module _ {l : LentWorld} {w : World} (s : Stands l w) where
-  pub read_table : unpack_table l.table ≡ record { ok = true; table = w.table }
+  pub read_table : unpack_table l.table ≡ Some w.table
   read_table = table_read w.table s.sized s.table
 
-  pub table_ok : (unpack_table l.table).ok ≡ true
-  table_ok = ap (λ (u : UnpackedTable). u.ok) read_table
+  pub table_ok : is_some (unpack_table l.table) ≡ true
+  table_ok = is_table _ read_table
 
   pub all_ok : EnrolmentsOk l.enrolments
   all_ok = enrolments_ok l.enrolments w.enrolments s.enrolments

@@ -1,4 +1,5 @@
 -- A call over lent bytes: where it is made, the bytes after it stand for the world after the call on values; else nothing is done.
+use Rattle.std.specs.Prelude.{Some, is_some, unwrap_or}
 use Prim.Native.Nat.{ℕ}
 use mathlib.Core.List.{List}
 use mathlib.Core.Bool.{Bool, true, false, cond}
@@ -12,9 +13,9 @@ use Rattle.protocol.specs.declared.Enrolment.{Enrolment}
 use Rattle.protocol.specs.declared.Outcome.{Outcome}
 use Rattle.protocol.specs.declared.RegistrarAnswer.{RegistrarAnswer}
 use Rattle.protocol.specs.declared.EndEntityAnswer.{EndEntityAnswer}
+use Rattle.protocol.specs.Table.{empty_table}
+use Rattle.protocol.specs.EndEntity.{no_enrolment}
 use Rattle.protocol.specs.Run.{World, BoardEnrolment, registrar_did, enrolment_did}
-use Rattle.packed.specs.declared.table.UnpackedTable.{UnpackedTable}
-use Rattle.packed.specs.declared.enrolment.UnpackedEnrolment.{UnpackedEnrolment}
 use Rattle.packed.specs.Answer.{registrar_answer_bytes, end_entity_answer_bytes, outcome_of}
 use Rattle.packed.specs.Enrolment.{unpack_enrolment, EnrolmentSized}
 use Rattle.packed.proofs.AnswerInverse.{registrar_outcome_back}
@@ -22,7 +23,7 @@ use Rattle.duskstall.specs.Boundary.{Crossing, boundary_fault, unless_faulty, re
 use Rattle.lent.specs.Lent.{LentCall, call_of, LentEnrolment, LentWorld, held_bytes, registrar_lent, enrolment_lent, is_made, sent_of, drawn_of, closed_of, events_of, registrar_sent, end_entity_sent}
 use Rattle.lent.proofs.RegistrarSizes.{RegistrarSized}
 use Rattle.lent.proofs.EndEntitySizes.{EndEntitySized}
-use Rattle.lent.proofs.Stand.{Stand, Stands, BothStand, stand_set, set_same, table_read, table_in_lem, enrolment_read, enrolment_in_lem, read_table, table_ok, was_made, registrar_sent_back, end_entity_sent_back}
+use Rattle.lent.proofs.Stand.{is_table, is_enrolment, Stand, Stands, BothStand, stand_set, set_same, table_read, table_in_lem, enrolment_read, enrolment_in_lem, read_table, table_ok, was_made, registrar_sent_back, end_entity_sent_back}
 
 module _ (l : LentWorld) (w : World) (st : Stands l w) where
   -- ## The registrar
@@ -42,7 +43,7 @@ module _ (l : LentWorld) (w : World) (st : Stands l w) where
             sized = z.table;
             enrolments = st.enrolments;
             past = rw (was_made a.outcome, sent, drawn, closed, registrar_sent_back a b z.outgoing r, registrar_outcome_back a b z.outgoing r z.outcome, table_read a.table z.table (table_in_lem l.table a.table (table_ok st)), st.past);
-            tables = (ap (λ (u : UnpackedTable). u.ok) (table_read a.table z.table (table_in_lem l.table a.table (table_ok st))), st.tables);
+            tables = (is_table _ (table_read a.table z.table (table_in_lem l.table a.table (table_ok st))), st.tables);
           })
 
       at : (p r : Bool) → leb registrar_answer_bytes (length b) ≡ r → After a (unless_faulty (boundary_fault true p r) l.table b (registrar_written a l.table b))
@@ -58,7 +59,7 @@ module _ (l : LentWorld) (w : World) (st : Stands l w) where
     pub registrar_step_lem : (p : Bool) (f : TransactionTable → RegistrarAnswer) (b : List ℕ) → RegistrarSized (f w.table)
         → After (f w.table) (registrar_crossing p f l.table b)
     registrar_step_lem p f b z =
-        subst (After (f w.table)) (ap (λ (u : UnpackedTable). registrar_answered u.ok p (f u.table) l.table b) (sym (read_table st))) (answered (f w.table) b z p)
+        subst (After (f w.table)) (ap (λ u. registrar_answered (is_some u) p (f (unwrap_or u empty_table)) l.table b) (sym (read_table st))) (answered (f w.table) b z p)
 
   -- ## An end entity
 
@@ -70,11 +71,11 @@ module _ (l : LentWorld) (w : World) (st : Stands l w) where
       abbrev a : EndEntityAnswer
       a = f x.enrolment
 
-      read_it : unpack_enrolment e.bytes ≡ record { ok = true; enrolment = x.enrolment }
+      read_it : unpack_enrolment e.bytes ≡ Some x.enrolment
       read_it = enrolment_read x.enrolment s.sized s.bytes
 
-      ok_it : (unpack_enrolment e.bytes).ok ≡ true
-      ok_it = ap (λ (u : UnpackedEnrolment). u.ok) read_it
+      ok_it : is_some (unpack_enrolment e.bytes) ≡ true
+      ok_it = is_enrolment _ read_it
 
       board-written : leb end_entity_answer_bytes (length b) ≡ true → AfterBoard (some e) (some x) (end_entity_written a e.bytes b)
       unfolding events_of
@@ -104,7 +105,7 @@ module _ (l : LentWorld) (w : World) (st : Stands l w) where
       board-answered p = board-at p (leb end_entity_answer_bytes (length b)) refl
 
       board_crossed : (p : Bool) → AfterBoard (some e) (some x) (end_entity_crossing p f e.bytes b)
-      board_crossed p = subst (AfterBoard (some e) (some x)) (ap (λ (u : UnpackedEnrolment). end_entity_answered u.ok p (f u.enrolment) e.bytes b) (sym read_it)) (board-answered p)
+      board_crossed p = subst (AfterBoard (some e) (some x)) (ap (λ u. end_entity_answered (is_some u) p (f (unwrap_or u no_enrolment)) e.bytes b) (sym read_it)) (board-answered p)
 
     pub enrolment-step : (e : Option LentEnrolment) (x : Option BoardEnrolment) → get_elem? l.enrolments k ≡ e → BothStand e x
         → ((y : Enrolment) → EnrolmentSized y → EndEntitySized (f y)) → (p : Bool) (b : List ℕ) → AfterBoard e x (end_entity_crossing p f (held_bytes e) b)

@@ -1,4 +1,5 @@
 -- Two enrolments over lent bytes, from an empty table: the premises hold, and the ends agree.
+use Rattle.std.specs.Prelude.{is_some}
 use Prim.Native.Nat.{ℕ, ◌<◌, ◌≤◌}
 use mathlib.Core.List.{List, [], ◌∷◌, ◌++◌}
 use mathlib.Core.Bool.{Bool, true, false, cond}
@@ -18,7 +19,7 @@ use Rattle.protocol.specs.Agreement.{Fair}
 use Rattle.protocol.specs.Witness.{board, ir_bytes, ip_bytes, pki_conf_bytes, enrols, accept_bytes, decline_bytes, board_says, EndsIn}
 use Rattle.protocol.proofs.Tests.{none_some, some_some}
 use Rattle.protocol.proofs.Witness.{witnesses}
-use Rattle.packed.specs.Arrays.{unpack16, unpack32}
+use Rattle.packed.specs.Arrays.{unpack}
 use Rattle.packed.specs.Answer.{registrar_answer_bytes, end_entity_answer_bytes}
 use Rattle.packed.specs.Table.{table_bytes}
 use Rattle.packed.specs.Enrolment.{enrolment_state_number, enrolment_bytes, unpack_enrolment}
@@ -90,7 +91,7 @@ module _ (s : List ℕ) (e : length s ≡ table_bytes) (accept : ℕ) (confirm :
   l₁ = lent_step (lent_beginning s) (EndEntityStart board (zeros enrolment_bytes) 0 (replicate 16 0x11) (replicate 16 1) (zeros end_entity_answer_bytes))
 
   started : length l₁.enrolments ≡ 1
-  unfolding lent_step start_crossing end_entity_start unpack16
+  unfolding lent_step start_crossing end_entity_start unpack
   started = refl
 
   abbrev l₂ : LentWorld
@@ -152,7 +153,7 @@ module _ (s : List ℕ) (e : length s ≡ table_bytes) (accept : ℕ) (confirm :
   )
 
   calls_are : made (lent_beginning s) (lent_enrols accept confirm) ≡ enrols (yes accept) confirm
-  unfolding unpack16 unpack32
+  unfolding unpack
   calls_are = all_made (lent_enrols accept confirm) (lent_beginning s) beginning (begins s e) fit
 
   same : world_of l₆ ≡ run (enrols (yes accept) confirm)
@@ -173,7 +174,7 @@ module _ (s : List ℕ) (e : length s ≡ table_bytes) (accept : ℕ) (confirm :
         → LentEnds s (lent_enrols accept confirm) (enrolment_state_number b)
     ends find =
         let g : (x : LentEnrolment) × (get_elem? l₆.enrolments 0 ≡ some x) = some_at l₆.enrolments 0 there₆ in
-        let h : (get_elem? (enrolments_of l₆.enrolments) 0 ≡ some (shown g.0)) × ((unpack_enrolment g.0.bytes).ok ≡ true) = held_bytes_lem l₆.enrolments (lent_runs s e (lent_enrols accept confirm)).enrolments 0 g.0 g.1 in
+        let h : (get_elem? (enrolments_of l₆.enrolments) 0 ≡ some (shown g.0)) × (is_some (unpack_enrolment g.0.bytes) ≡ true) = held_bytes_lem l₆.enrolments (lent_runs s e (lent_enrols accept confirm)).enrolments 0 g.0 g.1 in
         let state : enrolment_state g.0.bytes ≡ enrolment_state_number b = said g.0.bytes h.1 b (says-state (world_of l₆) (shown g.0) b h.0 (ap board_says same ∙ ends_in_lem.says)) in
         let agrees : HeaderAgreement l₆ = header_demand3 s e (lent_enrols accept confirm) fair in
         let f : FoundBytes l₆ g.0 (enrolment_state_number b) = find g.0 agrees g.1 state in

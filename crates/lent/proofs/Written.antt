@@ -1,5 +1,5 @@
 -- What the exported call writes is a message issued by the end whose answer held the order.
-use Rattle.std.specs.Prelude.{Ok, Err}
+use Rattle.std.specs.Prelude.{Ok, Err, Some, None, is_some, unwrap_or}
 use Prim.Native.Nat.{ℕ, ◌+◌, ◌*◌, ◌-◌, ◌<◌, ◌≤◌, ◌^◌}
 use mathlib.Core.List.{List, [], ◌∷◌, ◌++◌}
 use mathlib.Core.Bool.{Bool, true, false, cond, ◌&&◌, true≢false}
@@ -22,8 +22,7 @@ use Rattle.protocol.specs.Run.{End, World}
 use Rattle.protocol.specs.Agreement.{Issued, IssuedReading}
 use Rattle.packed.specs.Bytes.{AllBytes, part, four_at, two_at}
 use Rattle.packed.specs.Places.{id_bytes, nonce_bytes, hash_bytes, outgoing_kind_at, outgoing_id_at, outgoing_sender_nonce_at, outgoing_has_recip_nonce_at, outgoing_recip_nonce_at, outgoing_has_status_at, outgoing_status_at, outgoing_hash_at, outgoing_failure_at, outgoing_has_number_at, outgoing_number_at}
-use Rattle.packed.specs.declared.outgoing.UnpackedOutgoing.{UnpackedOutgoing}
-use Rattle.packed.specs.Outgoing.{failure_of, outgoing_bytes, outgoing_of, unpack_outgoing}
+use Rattle.packed.specs.Outgoing.{failure_of, outgoing_bytes, outgoing_of, unpack_outgoing, outgoing_held}
 use Rattle.packed.proofs.Parts.{part_length}
 use Rattle.encoding.specs.Given.{Given}
 use Rattle.encoding.specs.Message.{encode}
@@ -126,16 +125,13 @@ first-bytes u out size e =
 
 -- ## The call that wrote
 
-abbrev held : List ℕ → Bool → UnpackedOutgoing
-held out b = cond b (record { ok = true; outgoing = outgoing_of out }) (record { ok = false; outgoing = outgoing_of (zeros outgoing_bytes) })
-
 module _ (out given : List ℕ) where
-  order_is : write_args out given ≡ true → ((unpack_outgoing out).outgoing ≡ outgoing_of out) × (length out ≡ outgoing_bytes)
+  order_is : write_args out given ≡ true → (outgoing_held out ≡ outgoing_of out) × (length out ≡ outgoing_bytes)
   unfolding unpack_outgoing
   order_is = by (eqb (length out) outgoing_bytes) refl
     where
-      by : (b : Bool) → eqb (length out) outgoing_bytes ≡ b → ((held out b).ok && eqb (length given) given_count) ≡ true
-          → ((held out b).outgoing ≡ outgoing_of out) × (length out ≡ outgoing_bytes)
+      by : (b : Bool) → eqb (length out) outgoing_bytes ≡ b → is_some (cond b (Some (outgoing_of out)) None) && eqb (length given) given_count ≡ true
+          → (unwrap_or (cond b (Some (outgoing_of out)) None) (outgoing_of (zeros outgoing_bytes)) ≡ outgoing_of out) × (length out ≡ outgoing_bytes)
       by true e q = (refl, eqb-true (length out) outgoing_bytes e)
       by false e q = absurd (true≢false (sym q))
 
@@ -144,7 +140,7 @@ module _ (out given : List ℕ) where
   right_args h = rw (eq-eqb (length out) outgoing_bytes h.0) (eq-eqb (length given) given_count h.1)
 
   args_right_lengths : write_args out given ≡ true → RightLengths out given
-  args_right_lengths e = ((order_is e).1, eqb-true (length given) given_count (and_right (unpack_outgoing out).ok _ e))
+  args_right_lengths e = ((order_is e).1, eqb-true (length given) given_count (and_right (is_some (unpack_outgoing out)) _ e))
 
 module _ (out given src buf : List ℕ) (v n : ℕ) (low : n < 2 ^ 32) where
   -- the lengths were right
@@ -153,7 +149,7 @@ module _ (out given src buf : List ℕ) (v n : ℕ) (low : n < 2 ^ 32) where
   args_right = by (write_args out given) refl
     where
       by : (b : Bool) → write_args out given ≡ b
-          → cond b (written_number (write_answer src (spans_of v given) (unpack_outgoing out).outgoing buf)) (not_written 252) ≡ n → b ≡ true
+          → cond b (written_number (write_answer src (spans_of v given) (outgoing_held out) buf)) (not_written 252) ≡ n → b ≡ true
       by true e q = refl
       by false e q = absurd (omega (arith, q, low))
 
@@ -237,8 +233,8 @@ write_answers out given src buf v = by (write_args out given) refl
   where
     by : (b : Bool) → write_args out given ≡ b
         → WriteAnswers out given src buf
-        (cond b (buffer_after src (spans_of v given) (unpack_outgoing out).outgoing buf) buf) v
-        (cond b (written_number (write_answer src (spans_of v given) (unpack_outgoing out).outgoing buf)) (not_written 252))
+        (cond b (buffer_after src (spans_of v given) (outgoing_held out) buf) buf) v
+        (cond b (written_number (write_answer src (spans_of v given) (outgoing_held out) buf)) (not_written 252))
     by true e =
         let g : GivenSpans = spans_of v given in
         subst (λ (y : Outgoing). WriteAnswers out given src buf (buffer_after src g y buf) v (written_number (write_answer src g y buf)))

@@ -1,5 +1,5 @@
 -- A list of exported calls over lent bytes, from the bytes of an empty table on; and what the bytes say.
-use Rattle.std.specs.Prelude.{ℕ, List, [], ◌∷◌, ◌++◌, Bool, true, cond, ◌≡◌, length, drop, set, ltb}
+use Rattle.std.specs.Prelude.{ℕ, List, [], ◌∷◌, ◌++◌, Bool, true, cond, ◌≡◌, length, drop, set, ltb, is_some}
 use Rattle.std.proofs.Math.Option.{Option, none, some}
 use Rattle.std.proofs.Math.ListN.{get_elem?}
 use Rattle.protocol.specs.declared.Board.{Board}
@@ -12,8 +12,8 @@ use Rattle.protocol.specs.Agreement.{Fair, Agreement}
 use Rattle.packed.specs.Bytes.{flag_at}
 use Rattle.packed.specs.Outgoing.{outgoing_of}
 use Rattle.packed.specs.Answer.{outcome_of}
-use Rattle.packed.specs.Table.{table_bytes, unpack_table, pack_table_in}
-use Rattle.packed.specs.Enrolment.{unpack_enrolment}
+use Rattle.packed.specs.Table.{table_bytes, unpack_table, table_held, pack_table_in}
+use Rattle.packed.specs.Enrolment.{unpack_enrolment, enrolment_held}
 use Rattle.duskstall.specs.Boundary.{Crossing}
 use Rattle.duskstall.specs.Calls.{id_of, fresh_of, end_entity_start_crossing}
 use Rattle.lent.specs.HeaderPlaces.{registrar_sends_place, registrar_outgoing_place, end_entity_sends_place, end_entity_outgoing_place}
@@ -137,7 +137,7 @@ event_of e =
       sent = sent_of e.call e.answer;
       drawn = drawn_of e.call e.answer;
       closed = closed_of e.call e.answer;
-      table = (unpack_table e.table).table;
+      table = table_held e.table;
     }
 
 unfoldable pub events_of : List LentEvent → List Event
@@ -146,27 +146,27 @@ events_of (e ∷ es) = cond (is_made e.code) (event_of e ∷ events_of es) (even
 
 unfoldable pub enrolments_of : List LentEnrolment → List BoardEnrolment
 enrolments_of [] = []
-enrolments_of (e ∷ es) = record { board = e.board; enrolment = (unpack_enrolment e.bytes).enrolment } ∷ enrolments_of es
+enrolments_of (e ∷ es) = record { board = e.board; enrolment = enrolment_held e.bytes } ∷ enrolments_of es
 
 -- the table, the enrolments and the answers, read at their places
 abbrev pub world_of : LentWorld → World
-world_of w = record { table = (unpack_table w.table).table; enrolments = enrolments_of w.enrolments; past = events_of w.past }
+world_of w = record { table = table_held w.table; enrolments = enrolments_of w.enrolments; past = events_of w.past }
 
 -- every enrolment's bytes are an enrolment
 abbrev pub EnrolmentsOk : List LentEnrolment → Type 0
 EnrolmentsOk [] = Unit {0}
-EnrolmentsOk (e ∷ es) = ((unpack_enrolment e.bytes).ok ≡ true) × EnrolmentsOk es
+EnrolmentsOk (e ∷ es) = (is_some (unpack_enrolment e.bytes) ≡ true) × EnrolmentsOk es
 
 -- so are the table's after every call
 abbrev pub TablesOk : List LentEvent → Type 0
 TablesOk [] = Unit {0}
-TablesOk (e ∷ es) = ((unpack_table e.table).ok ≡ true) × TablesOk es
+TablesOk (e ∷ es) = (is_some (unpack_table e.table) ≡ true) × TablesOk es
 
 -- ## The theorems
 
 -- a list of calls over lent bytes does what the calls among them that were made do on values
 pub record StandsFor (s : List ℕ) (calls : List LentCall) : Type 0 where
-  pub table : (unpack_table (lent_after (lent_beginning s) calls).table).ok ≡ true
+  pub table : is_some (unpack_table (lent_after (lent_beginning s) calls).table) ≡ true
   pub enrolments : EnrolmentsOk (lent_after (lent_beginning s) calls).enrolments
   pub tables : TablesOk (lent_after (lent_beginning s) calls).past
   pub same : world_of (lent_after (lent_beginning s) calls) ≡ run (made (lent_beginning s) calls)

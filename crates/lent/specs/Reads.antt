@@ -10,8 +10,8 @@ use Rattle.protocol.specs.Promises.{AtMostOne, AllUnsetZero}
 use Rattle.packed.specs.Bytes.{flag_at}
 use Rattle.packed.specs.Outgoing.{outgoing_of}
 use Rattle.packed.specs.Answer.{outcome_number, outcome_of, read_fault_of, registrar_answer_of, end_entity_answer_of}
-use Rattle.packed.specs.Table.{table_bytes, unpack_table}
-use Rattle.packed.specs.Enrolment.{unpack_enrolment}
+use Rattle.packed.specs.Table.{table_bytes, table_held}
+use Rattle.packed.specs.Enrolment.{enrolment_held}
 use Rattle.duskstall.specs.Boundary.{Crossing}
 use Rattle.duskstall.specs.Calls.{id_of, fresh_of}
 use Rattle.lent.specs.HeaderPlaces.{end_entity_sends_place, end_entity_outgoing_place}
@@ -27,10 +27,10 @@ abbrev pub end_entity_read_back : Crossing → EndEntityAnswer
 end_entity_read_back x = end_entity_answer_of x.answer x.state
 
 abbrev pub table_in : LentWorld → TransactionTable
-table_in w = (unpack_table w.table).table
+table_in w = table_held w.table
 
 abbrev pub enrolment_in : LentWorld → ℕ → Enrolment
-enrolment_in w k = (unpack_enrolment (held_bytes (get_elem? w.enrolments k))).enrolment
+enrolment_in w k = enrolment_held (held_bytes (get_elem? w.enrolments k))
 
 -- what a call returned, and what it left in the bytes, say the answer
 pub record RegistrarReads (x : Crossing) (a : RegistrarAnswer) : Type 0 where
@@ -48,7 +48,7 @@ pub record StartReads (x : Crossing) (a : EndEntityAnswer) : Type 0 where
   pub fault : read_fault_of x.answer ≡ a.fault
   pub sends : flag_at end_entity_sends_place x.answer ≡ a.sends
   pub outgoing : outgoing_of (drop end_entity_outgoing_place x.answer) ≡ a.outgoing
-  pub enrolment : x.code ≡ 0 → (unpack_enrolment x.state).enrolment ≡ a.enrolment
+  pub enrolment : x.code ≡ 0 → enrolment_held x.state ≡ a.enrolment
 
 abbrev pub ReadsBack : LentWorld → LentCall → Type 0
 ReadsBack w (AtRegistrar c a) = RegistrarReads (crossing w (AtRegistrar c a)) (registrar_answers c (table_in w))

@@ -1,10 +1,11 @@
 -- Answers in bytes: how the call ended, the reader's fault, the slot, whether something is to be sent, and what.
-use Rattle.std.specs.Prelude.{ℕ, List, [], ◌∷◌, ◌++◌, cond, ◌≡◌, drop, get_or, eqb, ltb}
+use Rattle.std.specs.Prelude.{ℕ, List, [], ◌∷◌, ◌++◌, cond, ◌≡◌, drop, get_or, eqb, ltb, is_some, unwrap_or, Some, None}
 use Rattle.message.specs.declared.ReadFault.{ReadFault}
 use Rattle.protocol.specs.declared.Outcome.{Outcome}
 use Rattle.protocol.specs.declared.Outcome.TheVariants.{Done, Again, Refused}
 use Rattle.protocol.specs.declared.RegistrarAnswer.{RegistrarAnswer}
 use Rattle.protocol.specs.declared.EndEntityAnswer.{EndEntityAnswer}
+use Rattle.protocol.specs.Outgoing.{silent}
 use Rattle.packed.specs.Bytes.{flag, flag_at, eight_bytes, eight_at}
 use Rattle.packed.specs.Places.{answer_code_at, answer_refusal_at, answer_bit_at, answer_fault_at, answer_offset_at, answer_rule_at, registrar_slot_at, registrar_sends_at, registrar_outgoing_at, registrar_end, end_entity_sends_at, end_entity_outgoing_at, end_entity_end}
 use Rattle.packed.specs.Outgoing.{failure_number, failure_of, pack_outgoing, outgoing_of}
@@ -52,8 +53,8 @@ pack_registrar_answer a =
     pack_outcome a.outcome ++ (
     pack_fault a.fault ++ (
     (slot_byte a.slot.0 ∷ []) ++ (
-    (flag a.sends ∷ []) ++
-    pack_outgoing a.outgoing)))
+    (flag (is_some a.outgoing) ∷ []) ++
+    pack_outgoing (unwrap_or a.outgoing silent))))
 
 abbrev pub end_entity_answer_bytes : ℕ
 end_entity_answer_bytes = end_entity_end
@@ -62,8 +63,8 @@ unfoldable pub pack_end_entity_answer : EndEntityAnswer → List ℕ
 pack_end_entity_answer a =
     pack_outcome a.outcome ++ (
     pack_fault a.fault ++ (
-    (flag a.sends ∷ []) ++
-    pack_outgoing a.outgoing))
+    (flag (is_some a.outgoing) ∷ []) ++
+    pack_outgoing (unwrap_or a.outgoing silent)))
 
 -- ## What the bytes say: of an answer b, with the state s after the call
 
@@ -79,8 +80,7 @@ registrar_answer_of b s =
       outcome = outcome_of b;
       fault = read_fault_of b;
       slot = record { 0 = get_or b registrar_slot_at 0 };
-      sends = flag_at registrar_sends_at b;
-      outgoing = outgoing_of (drop registrar_outgoing_at b);
+      outgoing = cond (flag_at registrar_sends_at b) (Some (outgoing_of (drop registrar_outgoing_at b))) None;
       table = table_held s;
     }
 
@@ -89,8 +89,7 @@ end_entity_answer_of b s =
     record {
       outcome = outcome_of b;
       fault = read_fault_of b;
-      sends = flag_at end_entity_sends_at b;
-      outgoing = outgoing_of (drop end_entity_outgoing_at b);
+      outgoing = cond (flag_at end_entity_sends_at b) (Some (outgoing_of (drop end_entity_outgoing_at b))) None;
       enrolment = enrolment_held s;
     }
 

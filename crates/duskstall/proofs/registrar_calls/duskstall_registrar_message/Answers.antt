@@ -1,15 +1,8 @@
 -- What the bytes stand for goes into the call, and its answer goes back into them.
 use borrow.Author.Rules.{rules}
+use Rattle.duskstall.proofs.Crossings.{registrar_crosses}
 use Rattle.duskstall.proofs.registrar_calls.duskstall_registrar_message.Goals as goal
 
 pub returns : goal.returns
-returns c = (
-  rw (
-    ← c.unpack_table-t.ensures,
-    ← c.unpack_16-n.ensures,
-    ← c.fresh_from.ensures,
-    ← c.verdict_of.ensures,
-    ← c.message-a.ensures,
-  ) c.registrar_answered.ensures,
-  search rules,
-)
+returns c =
+    (registrar_crosses _ _ _ _ _ _ _ _ _ c.answered_message-answered.ensures c.registrar_answered.ensures, search rules)
