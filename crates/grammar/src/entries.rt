@@ -7,7 +7,7 @@ use crate::cursor::{
     Cursor, any, done, enter, leave, maybe, more, need, none, small_integer, tag_at, value,
 };
 use crate::parts::{
-    any_field, around, found, found_span, maybe_status, span_from, status_info, typed_field,
+    NO_SPAN, any_field, around, found, found_span, maybe_status, status_info, typed_field,
     whole_span,
 };
 
@@ -37,15 +37,14 @@ pub struct Entries {
 pub(crate) fn no_entry() -> Entry
     ensures { result ≡ no_entry }
 {
-    let absent = span_from(0, 0);
     Entry {
         number: 0,
         has_status: false,
         status: 0,
-        cert_hash: absent,
-        hash_alg: absent,
-        certificate: absent,
-        request: absent,
+        cert_hash: NO_SPAN,
+        hash_alg: NO_SPAN,
+        certificate: NO_SPAN,
+        request: NO_SPAN,
     }
 }
 

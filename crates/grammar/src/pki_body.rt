@@ -5,7 +5,7 @@ ghost use Rattle.grammar.specs.Body.{plain, from_entries, at_least_one, requests
 use crate::cursor::{Cursor, any, done, enter, fault_at, leave, maybe, need, tag_at};
 use crate::entries::{Entries, EntryKind, no_entry, only, read_entries};
 use crate::parts::{
-    Each, found_span, maybe_text, sequence_field, span_from, status_info, whole_span,
+    Each, NO_SPAN, found_span, maybe_text, sequence_field, status_info, whole_span,
 };
 use crate::{Body, Entry, Span};
 
@@ -49,7 +49,7 @@ fn requests(m: &[u8], c: Cursor) -> Contents
 {
     let s = need(m, c, 0x30);
     let e = read_entries(m, enter(s), EntryKind::Request);
-    from_entries(leave(s, at_least_one(e)), span_from(0, 0), e)
+    from_entries(leave(s, at_least_one(e)), NO_SPAN, e)
 }
 
 // CertRepMessage: ip, cp and kup.
@@ -72,7 +72,7 @@ fn confirmations(m: &[u8], c: Cursor) -> Contents
 {
     let s = need(m, c, 0x30);
     let e = read_entries(m, enter(s), EntryKind::Status);
-    from_entries(leave(s, e.cur), span_from(0, 0), e)
+    from_entries(leave(s, e.cur), NO_SPAN, e)
 }
 
 // ErrorMsgContent.
@@ -101,7 +101,7 @@ fn plain_contents(cur: Cursor) -> Contents
     Contents {
         cur,
         entries: 0,
-        ca_pubs: span_from(0, 0),
+        ca_pubs: NO_SPAN,
         entry: no_entry(),
     }
 }
