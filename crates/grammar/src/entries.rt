@@ -1,6 +1,6 @@
 // The entries of a body: request messages, responses and certificate statuses.
 ghost use Rattle.std.specs.Prelude.{◌≡◌, ◌+◌, ◌^◌, ◌<◌};
-ghost use Rattle.grammar.specs.Entries.{no_entry, no_entries, request_of, choice_of, key_pair, maybe_key_pair, response_of, cert_status_of, entry_of, next, entries_of, only_of};
+ghost use Rattle.grammar.specs.Entries.{no_entries, request_of, choice_of, key_pair, maybe_key_pair, response_of, cert_status_of, entry_of, next, entries_of, only_of};
 
 use crate::Entry;
 use crate::cursor::{
@@ -34,19 +34,16 @@ pub struct Entries {
     pub last: Entry,
 }
 
-pub(crate) fn no_entry() -> Entry
-    ensures { result ≡ no_entry }
-{
-    Entry {
-        number: 0,
-        has_status: false,
-        status: 0,
-        cert_hash: NO_SPAN,
-        hash_alg: NO_SPAN,
-        certificate: NO_SPAN,
-        request: NO_SPAN,
-    }
-}
+// What a body with no entry says.
+pub(crate) const NO_ENTRY: Entry = Entry {
+    number: 0,
+    has_status: false,
+    status: 0,
+    cert_hash: NO_SPAN,
+    hash_alg: NO_SPAN,
+    certificate: NO_SPAN,
+    request: NO_SPAN,
+};
 
 // CertReqMsg, as far as its certReqId.
 #[tactic(auto, unfolding(crate::specs::Entries::request_of))]
@@ -61,7 +58,7 @@ pub(crate) fn request(m: &[u8], c: Cursor) -> Item
         entry: Entry {
             number: value(m, n),
             request: whole_span(c, s),
-            ..no_entry()
+            ..NO_ENTRY
         },
     }
 }
@@ -119,7 +116,7 @@ fn response(m: &[u8], c: Cursor) -> Item
             has_status: i.given,
             status: i.value,
             certificate: found_span(k),
-            ..no_entry()
+            ..NO_ENTRY
         },
     }
 }
@@ -142,7 +139,7 @@ fn cert_status(m: &[u8], c: Cursor) -> Item
             status: i.value,
             cert_hash: found_span(h),
             hash_alg: found_span(a),
-            ..no_entry()
+            ..NO_ENTRY
         },
     }
 }
@@ -164,7 +161,7 @@ fn no_entries(c: Cursor) -> Entries
     Entries {
         cur: c,
         count: 0,
-        last: no_entry(),
+        last: NO_ENTRY,
     }
 }
 
@@ -196,5 +193,5 @@ pub(crate) fn read_entries(m: &[u8], c: Cursor, what: EntryKind) -> Entries
 pub(crate) fn only(e: Entries) -> Entry
     ensures { result ≡ only_of e }
 {
-    if e.count == 1 { e.last } else { no_entry() }
+    if e.count == 1 { e.last } else { NO_ENTRY }
 }

@@ -3,7 +3,7 @@ ghost use Rattle.std.specs.Prelude.{◌≡◌};
 ghost use Rattle.grammar.specs.Body.{plain, from_entries, at_least_one, requests_of, responses_of, confirmations_of, error_of, p10cr_of, contents_of, body_tag, body_of};
 
 use crate::cursor::{Cursor, any, done, enter, fault_at, leave, maybe, need, tag_at};
-use crate::entries::{Entries, EntryKind, no_entry, only, read_entries};
+use crate::entries::{Entries, EntryKind, NO_ENTRY, only, read_entries};
 use crate::parts::{
     Each, NO_SPAN, found_span, maybe_text, sequence_field, status_info, whole_span,
 };
@@ -88,7 +88,7 @@ fn error(m: &[u8], c: Cursor) -> Contents
         entry: Entry {
             has_status: i.given,
             status: i.value,
-            ..no_entry()
+            ..NO_ENTRY
         },
         ..plain_contents(leave(s, done(t)))
     }
@@ -102,7 +102,7 @@ fn plain_contents(cur: Cursor) -> Contents
         cur,
         entries: 0,
         ca_pubs: NO_SPAN,
-        entry: no_entry(),
+        entry: NO_ENTRY,
     }
 }
 
@@ -115,7 +115,7 @@ fn p10cr(m: &[u8], c: Cursor) -> Contents
     Contents {
         entry: Entry {
             request: whole_span(c, e),
-            ..no_entry()
+            ..NO_ENTRY
         },
         ..plain_contents(e)
     }
