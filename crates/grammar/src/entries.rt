@@ -1,13 +1,13 @@
 // The entries of a body: request messages, responses and certificate statuses.
 ghost use Rattle.std.specs.Prelude.{◌≡◌, ◌+◌, ◌^◌, ◌<◌};
-ghost use Rattle.grammar.specs.Entries.{no_entry, no_entries, request_of, choice_of, key_pair, maybe_key_pair, response_of, cert_status_of, entry_of, next, entries_of, only_of};
+ghost use Rattle.grammar.specs.Entries.{no_entries, request_of, choice_of, key_pair, maybe_key_pair, response_of, cert_status_of, entry_of, next, entries_of, only_of};
 
 use crate::Entry;
 use crate::cursor::{
     Cursor, any, done, enter, leave, maybe, more, need, none, small_integer, tag_at, value,
 };
 use crate::parts::{
-    any_field, around, found, found_span, maybe_status, span_from, status_info, typed_field,
+    NO_SPAN, any_field, around, found, found_span, maybe_status, status_info, typed_field,
     whole_span,
 };
 
@@ -34,19 +34,15 @@ pub struct Entries {
     pub last: Entry,
 }
 
-pub(crate) fn no_entry() -> Entry
-    ensures { result ≡ no_entry }
-{
-    let absent = span_from(0, 0);
-    Entry {
-        number: 0,
-        status: None,
-        cert_hash: absent,
-        hash_alg: absent,
-        certificate: absent,
-        request: absent,
-    }
-}
+// What a body with no entry says.
+pub(crate) const NO_ENTRY: Entry = Entry {
+    number: 0,
+    status: None,
+    cert_hash: NO_SPAN,
+    hash_alg: NO_SPAN,
+    certificate: NO_SPAN,
+    request: NO_SPAN,
+};
 
 // CertReqMsg, as far as its certReqId.
 #[tactic(auto, unfolding(crate::specs::Entries::request_of))]
@@ -61,7 +57,7 @@ pub(crate) fn request(m: &[u8], c: Cursor) -> Item
         entry: Entry {
             number: value(m, n),
             request: whole_span(c, s),
-            ..no_entry()
+            ..NO_ENTRY
         },
     }
 }
@@ -118,7 +114,7 @@ fn response(m: &[u8], c: Cursor) -> Item
             number: value(m, n),
             status: i.status,
             certificate: found_span(k),
-            ..no_entry()
+            ..NO_ENTRY
         },
     }
 }
@@ -140,7 +136,7 @@ fn cert_status(m: &[u8], c: Cursor) -> Item
             status: i.status,
             cert_hash: found_span(h),
             hash_alg: found_span(a),
-            ..no_entry()
+            ..NO_ENTRY
         },
     }
 }
@@ -162,7 +158,7 @@ fn no_entries(c: Cursor) -> Entries
     Entries {
         cur: c,
         count: 0,
-        last: no_entry(),
+        last: NO_ENTRY,
     }
 }
 
@@ -194,5 +190,5 @@ pub(crate) fn read_entries(m: &[u8], c: Cursor, what: EntryKind) -> Entries
 pub(crate) fn only(e: Entries) -> Entry
     ensures { result ≡ only_of e }
 {
-    if e.count == 1 { e.last } else { no_entry() }
+    if e.count == 1 { e.last } else { NO_ENTRY }
 }

@@ -29,6 +29,13 @@ pub struct Status {
     pub status: Option<u32>,
 }
 
+// An absent part.
+pub(crate) const NO_SPAN: Span = Span {
+    start: Offset(0),
+    len: 0,
+};
+
+// From one offset up to another.
 pub(crate) fn span_from(a: usize, b: usize) -> Span
     ensures { result ≡ span_from a b }
 {
@@ -57,26 +64,23 @@ pub(crate) fn outer_span(before: Cursor, after: Cursor) -> Span
     ensures { result ≡ outer_span before after }
 {
     if after.from == 0 {
-        span_from(0, 0)
+        NO_SPAN
     } else {
         whole_span(before, after)
     }
 }
 
 // Back out of an element, with the span of what was found inside.
-#[tactic(auto, unfolding(crate::specs::Parts::found_of))]
+#[tactic(auto, unfolding(crate::specs::Parts::found_of, crate::specs::Cursor::leave_of))]
 pub(crate) fn found(outer: Cursor, inner: Cursor) -> Cursor
     ensures { result ≡ found_of outer inner }
 {
-    if inner.rule == 0 {
-        Cursor {
-            from: inner.from,
-            to: inner.to,
-            ..outer
-        }
-    } else {
-        inner
-    }
+    let there = Cursor {
+        from: inner.from,
+        to: inner.to,
+        ..outer
+    };
+    leave(there, inner)
 }
 
 // An element with this tag, which holds what `inside` reads and nothing after it.

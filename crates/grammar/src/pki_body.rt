@@ -3,9 +3,9 @@ ghost use Rattle.std.specs.Prelude.{◌≡◌};
 ghost use Rattle.grammar.specs.Body.{plain, from_entries, at_least_one, requests_of, responses_of, confirmations_of, error_of, p10cr_of, contents_of, body_tag, body_of};
 
 use crate::cursor::{Cursor, any, done, enter, fault_at, leave, maybe, need, tag_at};
-use crate::entries::{Entries, EntryKind, no_entry, only, read_entries};
+use crate::entries::{Entries, EntryKind, NO_ENTRY, only, read_entries};
 use crate::parts::{
-    Each, found_span, maybe_text, sequence_field, span_from, status_info, whole_span,
+    Each, NO_SPAN, found_span, maybe_text, sequence_field, status_info, whole_span,
 };
 use crate::{Body, Entry, Span};
 
@@ -49,7 +49,7 @@ fn requests(m: &[u8], c: Cursor) -> Contents
 {
     let s = need(m, c, 0x30);
     let e = read_entries(m, enter(s), EntryKind::Request);
-    from_entries(leave(s, at_least_one(e)), span_from(0, 0), e)
+    from_entries(leave(s, at_least_one(e)), NO_SPAN, e)
 }
 
 // CertRepMessage: ip, cp and kup.
@@ -72,7 +72,7 @@ fn confirmations(m: &[u8], c: Cursor) -> Contents
 {
     let s = need(m, c, 0x30);
     let e = read_entries(m, enter(s), EntryKind::Status);
-    from_entries(leave(s, e.cur), span_from(0, 0), e)
+    from_entries(leave(s, e.cur), NO_SPAN, e)
 }
 
 // ErrorMsgContent.
@@ -87,7 +87,7 @@ fn error(m: &[u8], c: Cursor) -> Contents
     Contents {
         entry: Entry {
             status: i.status,
-            ..no_entry()
+            ..NO_ENTRY
         },
         ..plain_contents(leave(s, done(t)))
     }
@@ -100,8 +100,8 @@ fn plain_contents(cur: Cursor) -> Contents
     Contents {
         cur,
         entries: 0,
-        ca_pubs: span_from(0, 0),
-        entry: no_entry(),
+        ca_pubs: NO_SPAN,
+        entry: NO_ENTRY,
     }
 }
 
@@ -114,7 +114,7 @@ fn p10cr(m: &[u8], c: Cursor) -> Contents
     Contents {
         entry: Entry {
             request: whole_span(c, e),
-            ..no_entry()
+            ..NO_ENTRY
         },
         ..plain_contents(e)
     }
