@@ -15,7 +15,7 @@ use std::io::Read;
 // The kind of a certConf in PKIBody.
 const CERT_CONF: u8 = 24;
 
-// All there is to read, or as much as there is room for.
+// All there is to read, or as much as there is room for. Read by read, since read_to_end wants a heap.
 fn read_input<'a>(rt: &HostRuntime, buf: &'a mut [u8]) -> io::Result<&'a [u8]> {
     let mut stdin = rt.stdin();
     let mut done = 0;
@@ -33,15 +33,19 @@ fn put_span(rt: &HostRuntime, word: &str, span: Span) -> io::Result<()> {
     println!(rt; "{word} {} {}", span.start.0, span.len)
 }
 
+fn put_hash(rt: &HostRuntime, m: Message) -> io::Result<()> {
+    if m.body.kind == CERT_CONF && m.body.entries == 1 {
+        return put_span(rt, "hash", m.body.entry.cert_hash);
+    }
+    Ok(())
+}
+
 fn put_message(rt: &HostRuntime, m: Message) -> io::Result<()> {
     println!(rt; "kind {}", m.body.kind)?;
     put_span(rt, "header", m.header_span)?;
     put_span(rt, "body", m.body_span)?;
     put_span(rt, "protection", m.protection)?;
-    if m.body.kind == CERT_CONF && m.body.entries == 1 {
-        put_span(rt, "hash", m.body.entry.cert_hash)?;
-    }
-    Ok(())
+    put_hash(rt, m)
 }
 
 fn put_reading(rt: &HostRuntime, reading: Reading) -> io::Result<()> {

@@ -4,7 +4,8 @@ use Prim.Native.Nat.{ℕ, ◌<◌, ◌≤◌}
 use mathlib.Core.Path.{◌≡◌, refl, sym, ◌∙◌, ap, subst}
 use mathlib.Core.List.{List}
 use mathlib.Core.Logic.{◌↔◌, ◌⊎◌, inl, inr, ⊎_elim}
-use mathlib.Core.Bool.{Bool, true, false, ◌||◌, true≢false}
+use mathlib.Core.Bool.{true, false, ◌||◌, true≢false}
+use native.Mathlib.Nat.{eq-or-lt_of_le}
 use native.Mathlib.Omega.{arith}
 use borrow.Author.Tests.{ltb-true, ltb-false, eqb-true, eqb-false}
 use lib.ListN.{length}
@@ -75,7 +76,7 @@ same_at : {v : Check} {a b : Offset} {q p : ℕ} → v ≡ fault_by a q → v �
 same_at e g = ap (λ (f : FirstFault). f.at.0) (same_fault e g)
 
 no_fault_lem : {v : Check} {a : Offset} {q : ℕ} → v ≡ (Ok tt) → v ≡ fault_by a q → ⊥
-no_fault_lem e g = let z : ◌≡◌ {A = ℕ} 0 1 = cc in omega arith
+no_fault_lem e g = cc
 
 module _ (m : List ℕ) (some : 1 ≤ length m) (few : length m ≤ max_message) where
   says_broken : {at : Offset} {rule : ℕ} → Lowest m at.0 rule → Says m (broken_at at rule)
@@ -120,9 +121,6 @@ clean_found m x e = subst (Says m) e (says m)
 pub clean_places : (m : List ℕ) (x : Message) → reading_of m ≡ Ok x → FoundIn (length m) x
 clean_places m x e = let c = clean_found m x e in subst (FoundIn (length m)) (sym c.found) (found_in m c.met)
 
-below_or_at : (a n : ℕ) → a ≤ n → (a < n) ⊎ (a ≡ n)
-below_or_at a n h = cond_both (λ (b : Bool). (a < n) ⊎ (a ≡ n)) (ltb a n) {x = true} {y = false} (λ t. inl (ltb-true a n t)) (λ t. inr (omega (arith, ltb-false a n t)))
-
 -- LOWEST FAULT: refusal 2 names the lowest of the two faults, and DER's where both stand at one offset
 pub refused-lowest : (m : List ℕ) (r : ReadFault) → reading_of m ≡ Err r → r.number ≡ 2 → Lowest m r.at.0 r.rule
 unfolding Says
@@ -137,7 +135,7 @@ pub refused-inside : (m : List ℕ) (r : ReadFault) → reading_of m ≡ Err r �
 unfolding check
 refused-inside m r e n =
     ⊎_elim (λ d. inl (omega (arith, (fault_in max_depth 0 m d.0).1)))
-    (λ g. ⊎_elim inl (λ p. inr (p, g.2)) (below_or_at r.at.0 (length m) (omega (arith, g.1, grammar_in m))))
+    (λ g. ⊎_elim (λ p. inr (p, g.2)) inl (eq-or-lt_of_le {n = r.at.0} {m = length m} (omega (arith, g.1, grammar_in m))))
     (refused-lowest m r e n).named
 
 -- the reading is a refusal with this number

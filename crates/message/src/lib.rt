@@ -72,7 +72,7 @@ pub fn read(message: &[u8]) -> Reading
     lowest_fault(check_elements(message), read_message(message))
 }
 
-// The header, the whole element.
+// The header, the whole element. It and the next three differ in the field: public contracts.
 pub fn header_part(message: &[u8], found: Message) -> &[u8]
     ensures { result.now ≡ part_of message.now found.header_span }
 {

@@ -10,6 +10,9 @@ use protocol::{
     no_id, no_nonce,
 };
 
+// The PKIStatus of an error (RFC 9810 5.2.3).
+const REJECTION: u32 = 2;
+
 // No status, no hash, no bit, no number.
 fn blank() -> OutgoingContents
     ensures { result ≡ no_contents }
@@ -154,6 +157,6 @@ pub fn error(
 ) -> Outgoing
     ensures { result ≡ error_out id fresh answered failure }
 {
-    let rejected = with_status(blank(), 2);
+    let rejected = with_status(blank(), REJECTION);
     answer(ERROR, id, fresh, answered, with_failure(rejected, failure))
 }

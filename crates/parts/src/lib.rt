@@ -25,36 +25,40 @@ pub fn not_sixteen(message: &[u8], span: Span) -> bool
     !is_present(span) || part_of(message, span).len() != 16
 }
 
-// The one equality of ids.
+// The one comparison of bytes: ids, nonces and hashes are the same where these are.
 #[tactic(auto, using(crate::proofs::Laws::same_is))]
+fn same_bytes(p: &[u8], q: &[u8]) -> bool
+    ensures { result ≡ same_bytes p.now q.now }
+{
+    p == q
+}
+
+// The one equality of ids.
 pub fn same_id(a: TransactionId, b: TransactionId) -> bool
     ensures { result ≡ same_id a b }
 {
-    a == b
+    same_bytes(&a.bytes, &b.bytes)
 }
 
-// Whether the part is there and is this id.
-#[tactic(auto, using(crate::proofs::Laws::same_is))]
+// Whether the part is there and is this id. It and is_nonce, and id_of and nonce_of, differ in the type: public contracts.
 pub fn is_id(message: &[u8], span: Span, id: TransactionId) -> bool
     ensures { result ≡ is_id (optional_part message.now span) id }
 {
-    is_present(span) && part_of(message, span) == id.bytes.as_slice()
+    is_present(span) && same_bytes(part_of(message, span), &id.bytes)
 }
 
 // Whether the part is there and is this nonce.
-#[tactic(auto, using(crate::proofs::Laws::same_is))]
 pub fn is_nonce(message: &[u8], span: Span, nonce: Nonce) -> bool
     ensures { result ≡ is_nonce (optional_part message.now span) nonce }
 {
-    is_present(span) && part_of(message, span) == nonce.bytes.as_slice()
+    is_present(span) && same_bytes(part_of(message, span), &nonce.bytes)
 }
 
 // Whether the part has the bytes of this hash.
-#[tactic(auto, using(crate::proofs::Laws::same_is))]
 pub fn is_hash(message: &[u8], span: Span, hash: Hash) -> bool
     ensures { result ≡ same_bytes (part_of message.now span) hash.bytes }
 {
-    part_of(message, span) == hash.bytes.as_slice()
+    same_bytes(part_of(message, span), &hash.bytes)
 }
 
 // A copy of sixteen bytes; zeros where there are not exactly so many.

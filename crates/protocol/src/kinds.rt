@@ -42,7 +42,7 @@ pub fn is_response(kind: u8) -> bool
     matches!(kind, IP | CP | KUP)
 }
 
-// What opens a transaction at the registrar.
+// What opens a transaction at the registrar. The same as what an end entity starts with, but the definitions have both.
 pub fn is_opening_kind(kind: u8) -> bool
     ensures { result ≡ is_opening_kind kind }
 {

@@ -42,7 +42,7 @@ pub struct Hash {
     pub bytes: [u8; 32],
 }
 
-// The id that is not set.
+// The id that is not set. Each of the three is of another type, and each public contract stays.
 pub fn no_id() -> TransactionId
     ensures { result ≡ no_id }
 {
@@ -109,7 +109,7 @@ pub enum TransactionState {
 }
 
 // A transaction at the registrar (01's record in the book): `taken` is the last board nonce taken, `sent` the last
-// response nonce sent. What is not set is zero.
+// response nonce sent. What is not set is zero, and the state tells; no Options: the definitions and the C header have zeros.
 #[derive(Clone, Copy)]
 pub struct Transaction {
     pub id: TransactionId,
@@ -175,7 +175,7 @@ pub enum EnrolmentState {
 }
 
 // An enrolment at an end entity (01's board record): `last` is the last nonce it sent, `taken` the senderNonce of the
-// response that its certConf answers. What is not set is zero.
+// response that its certConf answers. What is not set is zero, as in Transaction.
 #[derive(Clone, Copy)]
 pub struct Enrolment {
     pub id: TransactionId,
@@ -206,7 +206,7 @@ impl Enrolment {
 pub type FailureInfo = Option<u8>;
 
 // What only some kinds carry: a status and a certReqId where their flags say so, a hash in a certConf, a bit in an error.
-// Flags, not Options: the definitions of specs/Outgoing.antt name these fields.
+// Flags and no Options: the definitions of specs/Outgoing.antt name these fields.
 #[derive(Clone, Copy)]
 pub struct OutgoingContents {
     pub has_status: bool,
@@ -218,7 +218,7 @@ pub struct OutgoingContents {
 }
 
 // A message to be sent (01's order). The recipNonce is there where its flag says so.
-// A flag, not an Option: the definitions of specs/Outgoing.antt name these fields.
+// A flag and no Option: the definitions of specs/Outgoing.antt name these fields.
 #[derive(Clone, Copy)]
 pub struct Outgoing {
     pub kind: u8,
@@ -229,7 +229,8 @@ pub struct Outgoing {
     pub contents: OutgoingContents,
 }
 
-// How a call ended: done; the same answer given again, with no change; or refused, with its number and bit.
+// How a call ended: done; the same answer given again, with no change; or refused, with its number and bit. The number is that
+// of the C header and of the definitions, so it is no enum.
 #[derive(Clone, Copy, Debug, PartialEq, Eq)]
 pub enum Outcome {
     Done,
@@ -238,7 +239,8 @@ pub enum Outcome {
 }
 
 // A registrar call's answer: how it ended, the reader's fault where the message does not read (else zeros), the slot it was
-// about (0 where it was refused), what is to be sent, if anything, and the next table.
+// about (0 where it was refused), what is to be sent, if anything, and the next table. Fault and slot are no Options: in the bytes of
+// the C header nothing tells 0 from none (`registrar_answer_of` of crates/packed).
 #[derive(Clone, Copy)]
 pub struct RegistrarAnswer {
     pub outcome: Outcome,
@@ -249,7 +251,7 @@ pub struct RegistrarAnswer {
 }
 
 // An end entity call's answer: how it ended, the reader's fault where the message does not read (else zeros), what is to be
-// sent, if anything, and the next enrolment.
+// sent, if anything, and the next enrolment. The fault is no Option, as in the registrar's.
 #[derive(Clone, Copy)]
 pub struct EndEntityAnswer {
     pub outcome: Outcome,
