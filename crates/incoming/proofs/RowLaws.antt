@@ -5,7 +5,7 @@ use mathlib.Core.Bool.{Bool, true, false, cond}
 use mathlib.Core.Path.{◌≡◌, refl, ◌∙◌}
 use Rattle.std.specs.Prelude.{Option, Some, None, map}
 use Rattle.std.specs.List.{find}
-use Rattle.std.specs.Option.{option_or, option_map}
+use Rattle.std.specs.Option.{option_or, option_map, MatchOption}
 use Rattle.protocol.specs.Refusals.{Row, LowestRow, pass, stop, lowest_row}
 use Rattle.incoming.specs.Incoming.{number_of, row_of}
 
@@ -33,6 +33,11 @@ number_at (stop k) d = refl
 -- two groups of rows, the second after the first
 pub number_append : (rs qs : List Row) → option_or (number_of (lowest_row rs)) (number_of (lowest_row qs)) ≡ number_of (lowest_row (rs ++ qs))
 number_append rs qs = number_at (lowest_row rs) (lowest_row qs) ∙ rw (check_append rs qs)
+
+-- what `or_else` gives, where the closure gives w
+pub or_else_is : {P : Type 0} (o r w : Option ℕ) → (P → r ≡ w) → MatchOption o P (λ x. r ≡ Some x) → r ≡ option_or o w
+or_else_is None r w f h = f h
+or_else_is (Some x) r w f h = h
 
 -- what a number, or none, tells of the row
 pub stops_at : (c : LowestRow) (k : ℕ) → Some k ≡ number_of c → c ≡ stop k

@@ -1,86 +1,13 @@
-// The forms of the registrar's answers.
+// The forms of the registrar's answers, each made from a plainer one.
 ghost use Rattle.std.specs.Prelude.{◌≡◌};
-ghost use Rattle.protocol.specs.Refusals.{no_fault};
 ghost use Rattle.protocol.specs.Registrar.{refused_quietly, refused_reading, done_quietly, done_sending};
 ghost use Rattle.registrar.specs.Steps.{refusal_answer, repeated};
 
-use der::Offset;
-use incoming::rows::{bit_of, read_refusal};
+use incoming::rows::{bit_of, no_fault, read_refusal};
 use message::ReadFault;
 use protocol::{
     FreshNonce, Nonce, Outcome, Outgoing, RegistrarAnswer, Slot, TransactionId, TransactionTable,
 };
-
-fn no_fault() -> ReadFault
-    ensures { result ≡ no_fault }
-{
-    ReadFault {
-        number: 0,
-        at: Offset(0),
-        rule: 0,
-    }
-}
-
-// Refused, with nothing to send.
-pub(crate) fn refused_quietly(number: u8, table: TransactionTable) -> RegistrarAnswer
-    ensures { result ≡ refused_quietly number table }
-{
-    RegistrarAnswer {
-        outcome: Outcome::Refused(number, bit_of(number, false)),
-        fault: no_fault(),
-        slot: Slot(0),
-        sends: false,
-        outgoing: outgoing::silent(),
-        table,
-    }
-}
-
-// The bytes do not read.
-pub(crate) fn refused_reading(fault: ReadFault, table: TransactionTable) -> RegistrarAnswer
-    ensures { result ≡ refused_reading fault table }
-{
-    let number = read_refusal(fault);
-    RegistrarAnswer {
-        outcome: Outcome::Refused(number, bit_of(number, false)),
-        fault,
-        slot: Slot(0),
-        sends: false,
-        outgoing: outgoing::silent(),
-        table,
-    }
-}
-
-// A message is refused: from 6 up with an error message.
-pub(crate) fn refused_message(
-    number: u8,
-    confirmed: bool,
-    table: TransactionTable,
-    fresh: FreshNonce,
-    id: TransactionId,
-    answered: Nonce,
-) -> RegistrarAnswer
-    ensures { result ≡ refusal_answer number confirmed table fresh id answered }
-{
-    let bit = bit_of(number, confirmed);
-    if 6 <= number {
-        return RegistrarAnswer {
-            outcome: Outcome::Refused(number, bit),
-            fault: no_fault(),
-            slot: Slot(0),
-            sends: true,
-            outgoing: outgoing::error(id, fresh, answered, bit),
-            table,
-        };
-    }
-    RegistrarAnswer {
-        outcome: Outcome::Refused(number, bit),
-        fault: no_fault(),
-        slot: Slot(0),
-        sends: false,
-        outgoing: outgoing::silent(),
-        table,
-    }
-}
 
 // Done at this slot, with nothing to send.
 pub(crate) fn done_quietly(slot: Slot, table: TransactionTable) -> RegistrarAnswer
@@ -105,12 +32,9 @@ pub(crate) fn done_sending(
     ensures { result ≡ done_sending slot.0 table.transactions outgoing }
 {
     RegistrarAnswer {
-        outcome: Outcome::Done,
-        fault: no_fault(),
-        slot,
         sends: true,
         outgoing,
-        table,
+        ..done_quietly(slot, table)
     }
 }
 
@@ -120,10 +44,52 @@ pub(crate) fn again(slot: Slot, table: TransactionTable, outgoing: Outgoing) -> 
 {
     RegistrarAnswer {
         outcome: Outcome::Again,
-        fault: no_fault(),
-        slot,
-        sends: true,
-        outgoing,
-        table,
+        ..done_sending(slot, table, outgoing)
     }
+}
+
+// Refused, with nothing to send.
+pub(crate) fn refused_quietly(number: u8, table: TransactionTable) -> RegistrarAnswer
+    ensures { result ≡ refused_quietly number table }
+{
+    RegistrarAnswer {
+        outcome: Outcome::Refused(number, bit_of(number, false)),
+        ..done_quietly(Slot(0), table)
+    }
+}
+
+// The bytes do not read.
+pub(crate) fn refused_reading(fault: ReadFault, table: TransactionTable) -> RegistrarAnswer
+    ensures { result ≡ refused_reading fault table }
+{
+    RegistrarAnswer {
+        fault,
+        ..refused_quietly(read_refusal(fault), table)
+    }
+}
+
+// A message is refused: from 6 up with an error message.
+pub(crate) fn refused_message(
+    number: u8,
+    confirmed: bool,
+    table: TransactionTable,
+    fresh: FreshNonce,
+    id: TransactionId,
+    answered: Nonce,
+) -> RegistrarAnswer
+    ensures { result ≡ refusal_answer number confirmed table fresh id answered }
+{
+    let bit = bit_of(number, confirmed);
+    let refused = RegistrarAnswer {
+        outcome: Outcome::Refused(number, bit),
+        ..done_quietly(Slot(0), table)
+    };
+    if 6 <= number {
+        return RegistrarAnswer {
+            sends: true,
+            outgoing: outgoing::error(id, fresh, answered, bit),
+            ..refused
+        };
+    }
+    refused
 }
