@@ -1,9 +1,9 @@
 -- What becomes of a message that reads, by the number of the row that refuses it; and the nonce that it is answered by.
-use Rattle.std.specs.Prelude.{Err}
+use Rattle.std.specs.Prelude.{Ok, Err, Option, Some, None}
 use Prim.Native.Nat.{ℕ}
 use mathlib.Core.List.{List}
 use mathlib.Core.Bool.{true, false}
-use mathlib.Core.Path.{◌≡◌, refl, ◌∙◌}
+use mathlib.Core.Path.{◌≡◌, sym, ◌∙◌}
 use borrow.Author.Tests.{ne_eqb}
 use Rattle.grammar.specs.declared.Message.{Message}
 use Rattle.message.specs.Read.{reading_of}
@@ -23,22 +23,20 @@ use Rattle.protocol.specs.EndEntityRows.{end_entity_rows}
 use Rattle.protocol.specs.EndEntity.{enrolment_refused, enrolment_unread, enrolment_moved, in_state, after_refusal, confirming, end_entity_checked, end_entity_read, end_entity_message}
 use Rattle.protocol.proofs.Tests.{passes}
 use Rattle.parts.specs.Parts.{sixteen_of}
-use Rattle.incoming.specs.Incoming.{number_of, fault_of}
+use Rattle.incoming.specs.Incoming.{number_of}
 use Rattle.parts.proofs.Laws.{copy_is}
-use Rattle.incoming.proofs.RowLaws as row_laws
-use Rattle.incoming.proofs.RowLaws.{all_positive}
+use Rattle.incoming.proofs.RowLaws.{stops_at, passes_all}
 
 module _ (x : Enrolment) (d : EndEntityInput) (m : Fields) where
   abbrev rows : List Row
   rows = end_entity_rows x d.good m
 
-  pub refused_by : (k : ℕ) → k ≡ number_of (lowest_row rows) → (k ≡ 0 → ⊥) → enrolment_refused k (after_refusal k m x) ≡ end_entity_checked (lowest_row rows) x d m
-  unfolding end_entity_checked
-  refused_by k e n = rw (row_laws.stops_at (lowest_row rows) k e n)
+  pub refused_by : {n : Option ℕ} (k : ℕ) → n ≡ number_of (lowest_row rows) → n ≡ Some k → enrolment_refused k x ≡ end_entity_checked (lowest_row rows) x d m
+  unfolding end_entity_checked after_refusal
+  refused_by k e z = rw (stops_at (lowest_row rows) k (sym z ∙ e))
 
-  pub passes_all : 0 ≡ number_of (lowest_row rows) → lowest_row rows ≡ pass
-  unfolding end_entity_rows all_positive
-  passes_all e = row_laws.passes_all rows refl e
+  pub passes_it : {n : Option ℕ} → n ≡ number_of (lowest_row rows) → n ≡ None → lowest_row rows ≡ pass
+  passes_it e z = passes_all (lowest_row rows) (sym z ∙ e)
 
   -- ## A message that no row refuses
 
@@ -69,15 +67,20 @@ module _ (x : Enrolment) (d : EndEntityInput) (m : Fields) where
 -- ## The response's nonce
 
 -- row 5 did not apply
-pub answered : (x : Enrolment) (d : EndEntityInput) (bytes : List ℕ) (m : Message) (n : Nonce) → 0 ≡ number_of (lowest_row (end_entity_rows x d.good (fields_of bytes m))) → n.bytes ≡ sixteen_of (part_of bytes m.header.sender_nonce) → n ≡ as_nonce (fields_of bytes m).sender_nonce
+pub answered : (x : Enrolment) (d : EndEntityInput) (bytes : List ℕ) (m : Message) (n : Nonce) → lowest_row (end_entity_rows x d.good (fields_of bytes m)) ≡ pass → n.bytes ≡ sixteen_of (part_of bytes m.header.sender_nonce) → n ≡ as_nonce (fields_of bytes m).sender_nonce
 unfolding fields_of end_entity_rows
 answered x d bytes m n e q =
-    let s : not_sixteen (optional_part bytes m.header.sender_nonce) ≡ false = passes 5 _ (passes_all x d (fields_of bytes m) e) in
+    let s : not_sixteen (optional_part bytes m.header.sender_nonce) ≡ false = passes 5 _ e in
     let p : n.bytes ≡ bytes_of (optional_part bytes m.header.sender_nonce) = q ∙ copy_is bytes m.header.sender_nonce s in
     λ i. record { bytes = p i }
 
--- ## A message that does not read
+-- ## The reading taken apart
 
-pub unread_at : (x : Enrolment) (d : EndEntityInput) (bytes : List ℕ) (r : Reading) (f : ReadFault) → r ≡ Err f → r ≡ reading_of bytes → enrolment_unread (fault_of r) x ≡ end_entity_message x d bytes
-unfolding end_entity_message end_entity_read
-unread_at x d bytes r f e q = rw (← q, e)
+module _ (x : Enrolment) (d : EndEntityInput) (bytes : List ℕ) {r : Reading} (e : r ≡ reading_of bytes) where
+  pub unread_at : {f : ReadFault} → r ≡ Err f → enrolment_unread f x ≡ end_entity_message x d bytes
+  unfolding end_entity_message end_entity_read
+  unread_at q = rw (← e, q)
+
+  pub read_at : {m : Message} → r ≡ Ok m → end_entity_checked (lowest_row (end_entity_rows x d.good (fields_of bytes m))) x d (fields_of bytes m) ≡ end_entity_message x d bytes
+  unfolding end_entity_message end_entity_read
+  read_at q = rw (← e, q)

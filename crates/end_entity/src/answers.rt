@@ -1,24 +1,24 @@
-// The end entity's answers.
+// The end entity's answers, each made from a plainer one.
 ghost use Rattle.std.specs.Prelude.{◌≡◌};
-ghost use Rattle.protocol.specs.Refusals.{no_fault};
 ghost use Rattle.protocol.specs.EndEntity.{enrolment_refused, enrolment_unread, enrolment_moved, in_state, started_enrolment, confirmed_enrolment, confirming};
 
 use crate::states::{decided_state, decision_status};
-use der::Offset;
-use incoming::rows::{bit_of, read_refusal};
+use incoming::rows::{bit_of, no_fault, read_refusal};
 use message::ReadFault;
 use protocol::{
-    EndEntityAnswer, EndEntityInput, Enrolment, EnrolmentState, FreshNonce, Hash, Nonce, Outcome,
+    EndEntityAnswer, EndEntityInput, Enrolment, EnrolmentState, FreshNonce, Nonce, Outcome,
     TransactionId, no_hash, no_nonce,
 };
 
-pub(crate) fn no_fault() -> ReadFault
-    ensures { result ≡ no_fault }
+// Done, with nothing to send.
+pub(crate) fn done(enrolment: Enrolment) -> EndEntityAnswer
+    ensures { result ≡ enrolment_moved enrolment }
 {
-    ReadFault {
-        number: 0,
-        at: Offset(0),
-        rule: 0,
+    EndEntityAnswer {
+        outcome: Outcome::Done,
+        fault: no_fault(),
+        outgoing: None,
+        enrolment,
     }
 }
 
@@ -28,10 +28,7 @@ pub(crate) fn refused(number: u8, enrolment: Enrolment) -> EndEntityAnswer
 {
     EndEntityAnswer {
         outcome: Outcome::Refused(number, bit_of(number, false)),
-        fault: no_fault(),
-        sends: false,
-        outgoing: outgoing::silent(),
-        enrolment,
+        ..done(enrolment)
     }
 }
 
@@ -39,14 +36,9 @@ pub(crate) fn refused(number: u8, enrolment: Enrolment) -> EndEntityAnswer
 pub(crate) fn unread(enrolment: Enrolment, fault: ReadFault) -> EndEntityAnswer
     ensures { result ≡ enrolment_unread fault enrolment }
 {
-    let number = read_refusal(fault);
-    let bit = bit_of(number, false);
     EndEntityAnswer {
-        outcome: Outcome::Refused(number, bit),
         fault,
-        sends: false,
-        outgoing: outgoing::silent(),
-        enrolment,
+        ..refused(read_refusal(fault), enrolment)
     }
 }
 
@@ -54,24 +46,7 @@ pub(crate) fn unread(enrolment: Enrolment, fault: ReadFault) -> EndEntityAnswer
 pub(crate) fn moved(enrolment: Enrolment, state: EnrolmentState) -> EndEntityAnswer
     ensures { result ≡ enrolment_moved (in_state enrolment state) }
 {
-    let id = enrolment.id;
-    let last = enrolment.last;
-    let taken = enrolment.taken;
-    let hash = enrolment.hash;
-    EndEntityAnswer {
-        outcome: Outcome::Done,
-        fault: no_fault(),
-        sends: false,
-        outgoing: outgoing::silent(),
-        enrolment: Enrolment {
-            id,
-            kind: enrolment.kind,
-            last,
-            taken,
-            hash,
-            state,
-        },
-    }
+    done(Enrolment { state, ..enrolment })
 }
 
 // The enrolment of a start that is not refused.
@@ -89,23 +64,15 @@ pub(crate) fn started(kind: u8, id: TransactionId, nonce: FreshNonce) -> Enrolme
 }
 
 // The host's hash and nonce, and the nonce of the response, are kept.
-fn confirmed(
-    enrolment: Enrolment,
-    accept: bool,
-    hash: Hash,
-    nonce: FreshNonce,
-    answered: Nonce,
-) -> Enrolment
-    ensures { result ≡ confirmed_enrolment enrolment accept hash nonce answered }
+fn confirmed(enrolment: Enrolment, input: EndEntityInput, answered: Nonce) -> Enrolment
+    ensures { result ≡ confirmed_enrolment enrolment input.accept input.hash input.nonce answered }
 {
-    let id = enrolment.id;
     Enrolment {
-        id,
-        kind: enrolment.kind,
-        last: nonce.nonce(),
+        last: input.nonce.nonce(),
         taken: answered,
-        hash,
-        state: decided_state(accept),
+        hash: input.hash,
+        state: decided_state(input.accept),
+        ..enrolment
     }
 }
 
@@ -117,16 +84,11 @@ pub(crate) fn confirm(
 ) -> EndEntityAnswer
     ensures { result ≡ confirming enrolment input.accept input.hash input.nonce answered }
 {
-    let kind = enrolment.kind;
-    let id = enrolment.id;
-    let hash = input.hash;
-    let nonce = input.nonce;
-    let accept = input.accept;
+    let Enrolment { id, kind, .. } = enrolment;
+    let status = decision_status(input.accept);
+    let sent = outgoing::cert_conf(kind, id, input.nonce, answered, status, input.hash);
     EndEntityAnswer {
-        outcome: Outcome::Done,
-        fault: no_fault(),
-        sends: true,
-        outgoing: outgoing::cert_conf(kind, id, nonce, answered, decision_status(accept), hash),
-        enrolment: confirmed(enrolment, accept, hash, nonce, answered),
+        outgoing: Some(sent),
+        ..done(confirmed(enrolment, input, answered))
     }
 }

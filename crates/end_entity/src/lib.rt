@@ -10,42 +10,32 @@ ghost use Rattle.protocol.specs.Bytes.{as_nonce};
 ghost use Rattle.protocol.specs.Message.{Fields, fields_of, status_or0};
 ghost use Rattle.protocol.specs.Refusals.{pass, lowest_row};
 ghost use Rattle.protocol.specs.EndEntityRows.{end_entity_rows};
-ghost use Rattle.protocol.specs.EndEntity.{end_entity_start, after_refusal, end_entity_checked, end_entity_message, end_entity_time_out};
+ghost use Rattle.protocol.specs.EndEntity.{end_entity_start, end_entity_checked, end_entity_message, end_entity_time_out};
 
-use crate::answers::{confirm, moved, no_fault, refused, started, unread};
+use crate::answers::{confirm, done, moved, refused, started, unread};
 use crate::rows::lowest_refusal;
 use crate::states::{assured_state, broken_state, is_awaiting};
 use grammar::Message;
-use incoming::rows::{fault_of, status_or_0};
+use incoming::rows::status_or_0;
 use message::read;
 use parts::nonce_of;
 use protocol::kinds::{ERROR, PKI_CONF, is_response, is_starting_kind};
 use protocol::{
-    EndEntityAnswer, EndEntityInput, Enrolment, EnrolmentState, FreshNonce, Nonce, Outcome,
-    TransactionId,
+    EndEntityAnswer, EndEntityInput, Enrolment, EnrolmentState, FreshNonce, Nonce, TransactionId,
 };
 
 // Starts an enrolment by a request of this kind, with the id and the nonce that the host drew.
+#[tactic(auto, unfolding(protocol::specs::EndEntity::end_entity_start))]
 pub fn start(kind: u8, id: TransactionId, nonce: FreshNonce) -> EndEntityAnswer
     ensures { result ≡ end_entity_start kind id nonce }
 {
     if is_starting_kind(kind) {
         return EndEntityAnswer {
-            outcome: Outcome::Done,
-            fault: no_fault(),
-            sends: true,
-            outgoing: outgoing::request(kind, id, nonce),
-            enrolment: started(kind, id, nonce),
+            outgoing: Some(outgoing::request(kind, id, nonce)),
+            ..done(started(kind, id, nonce))
         };
     }
     refused(32, Enrolment::none())
-}
-
-// The enrolment after a refused message.
-fn after_refusal(number: u8, bytes: &[u8], m: Message, enrolment: Enrolment) -> Enrolment
-    ensures { result ≡ after_refusal number (fields_of bytes.now m) enrolment }
-{
-    enrolment
 }
 
 // A message that no row refuses, by its kind: of any with this kind, status and senderNonce. Of another kind none comes
@@ -60,12 +50,11 @@ fn taken(
 ) -> EndEntityAnswer
     ensures { (m : Fields) → m.kind ≡ kind → status_or0 m.status ≡ status → as_nonce m.sender_nonce ≡ answered → result ≡ end_entity_checked pass enrolment input m }
 {
-    let state = enrolment.state;
     if kind == PKI_CONF {
-        return moved(enrolment, assured_state(state));
+        return moved(enrolment, assured_state(enrolment.state));
     }
     if kind == ERROR {
-        return moved(enrolment, broken_state(state));
+        return moved(enrolment, broken_state(enrolment.state));
     }
     if is_response(kind) {
         if status == 2 {
@@ -76,39 +65,35 @@ fn taken(
     refused(8, enrolment)
 }
 
-// A message that reads: refused by the table's lowest row, or taken.
+// A message that reads: refused by the table's lowest row, which changes nothing, or taken.
 fn checked(enrolment: Enrolment, bytes: &[u8], m: Message, input: EndEntityInput) -> EndEntityAnswer
     ensures { result ≡ end_entity_checked (lowest_row (end_entity_rows enrolment input.good (fields_of bytes.now m))) enrolment input (fields_of bytes.now m) }
 {
-    let number = lowest_refusal(enrolment, bytes, m, input.good);
-    if number != 0 {
-        return refused(number, after_refusal(number, bytes, m, enrolment));
+    if let Some(number) = lowest_refusal(enrolment, bytes, m, input.good) {
+        return refused(number, enrolment);
     }
-    let header = m.header;
-    let body = m.body;
-    let entry = body.entry;
-    let answered = nonce_of(bytes, header.sender_nonce);
-    taken(enrolment, input, body.kind, status_or_0(entry), answered)
+    let answered = nonce_of(bytes, m.header.sender_nonce);
+    let status = status_or_0(m.body.entry);
+    taken(enrolment, input, m.body.kind, status, answered)
 }
 
 // A message, with what the host says of it.
 pub fn message(enrolment: Enrolment, bytes: &[u8], input: EndEntityInput) -> EndEntityAnswer
     ensures { result ≡ end_entity_message enrolment input bytes.now }
 {
-    let reading = read(bytes);
-    let Ok(m) = reading else {
-        return unread(enrolment, fault_of(reading));
-    };
-    checked(enrolment, bytes, m, input)
+    match read(bytes) {
+        Ok(m) => checked(enrolment, bytes, m, input),
+        Err(fault) => unread(enrolment, fault),
+    }
 }
 
 // The host waited long enough.
+#[tactic(auto, unfolding(protocol::specs::EndEntity::end_entity_time_out))]
 pub fn time_out(enrolment: Enrolment) -> EndEntityAnswer
     ensures { result ≡ end_entity_time_out enrolment }
 {
-    let state = enrolment.state;
-    if is_awaiting(state) {
-        return moved(enrolment, broken_state(state));
+    if is_awaiting(enrolment.state) {
+        return moved(enrolment, broken_state(enrolment.state));
     }
     refused(31, enrolment)
 }

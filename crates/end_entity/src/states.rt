@@ -8,40 +8,24 @@ use protocol::EnrolmentState;
 pub(crate) fn is_waiting(state: EnrolmentState) -> bool
     ensures { result ≡ is_waiting state }
 {
-    match state {
-        EnrolmentState::Asked => true,
-        EnrolmentState::Confirming => false,
-        EnrolmentState::Declining => false,
-        EnrolmentState::Sure => false,
-        EnrolmentState::Declined => false,
-        EnrolmentState::Failed => false,
-        EnrolmentState::Unsettled => false,
-    }
+    matches!(state, EnrolmentState::Asked)
 }
 
 // Whether a confirmation was sent, and its pkiconf is awaited.
 pub(crate) fn is_confirming(state: EnrolmentState) -> bool
     ensures { result ≡ is_confirming state }
 {
-    match state {
-        EnrolmentState::Asked => false,
-        EnrolmentState::Confirming => true,
-        EnrolmentState::Declining => true,
-        EnrolmentState::Sure => false,
-        EnrolmentState::Declined => false,
-        EnrolmentState::Failed => false,
-        EnrolmentState::Unsettled => false,
-    }
+    matches!(
+        state,
+        EnrolmentState::Confirming | EnrolmentState::Declining
+    )
 }
 
 // Whether anything is awaited.
 pub(crate) fn is_awaiting(state: EnrolmentState) -> bool
     ensures { result ≡ (is_waiting state || is_confirming state) }
 {
-    if is_waiting(state) {
-        return true;
-    }
-    is_confirming(state)
+    is_waiting(state) || is_confirming(state)
 }
 
 // Where an error or a time out leads.
@@ -50,12 +34,8 @@ pub(crate) fn broken_state(state: EnrolmentState) -> EnrolmentState
 {
     match state {
         EnrolmentState::Asked => EnrolmentState::Failed,
-        EnrolmentState::Confirming => EnrolmentState::Unsettled,
-        EnrolmentState::Declining => EnrolmentState::Unsettled,
-        EnrolmentState::Sure => EnrolmentState::Sure,
-        EnrolmentState::Declined => EnrolmentState::Declined,
-        EnrolmentState::Failed => EnrolmentState::Failed,
-        EnrolmentState::Unsettled => EnrolmentState::Unsettled,
+        EnrolmentState::Confirming | EnrolmentState::Declining => EnrolmentState::Unsettled,
+        ended => ended,
     }
 }
 
@@ -64,13 +44,9 @@ pub(crate) fn assured_state(state: EnrolmentState) -> EnrolmentState
     ensures { result ≡ assured state }
 {
     match state {
-        EnrolmentState::Asked => EnrolmentState::Asked,
         EnrolmentState::Confirming => EnrolmentState::Sure,
         EnrolmentState::Declining => EnrolmentState::Declined,
-        EnrolmentState::Sure => EnrolmentState::Sure,
-        EnrolmentState::Declined => EnrolmentState::Declined,
-        EnrolmentState::Failed => EnrolmentState::Failed,
-        EnrolmentState::Unsettled => EnrolmentState::Unsettled,
+        other => other,
     }
 }
 

@@ -1,26 +1,23 @@
 // The rows of 01's table that both ends share, and the bit that goes with each number.
-ghost use Rattle.std.specs.Prelude.{◌≡◌, not, cond, ◌&&◌, ◌||◌, eqb};
+ghost use Rattle.std.specs.Prelude.{◌≡◌, not, map, ◌&&◌, ◌||◌, eqb};
 ghost use Rattle.protocol.specs.Message.{is_present, fields_of, optional_status, status_or0};
-ghost use Rattle.protocol.specs.Refusals.{bit_of, read_refusal, lowest_row, head_rows};
-ghost use Rattle.incoming.specs.Incoming.{number_of, fault_of, or_row};
+ghost use Rattle.protocol.specs.Refusals.{bit_of, no_fault, read_refusal, lowest_row, head_rows};
+ghost use Rattle.incoming.specs.Incoming.{number_of, row_of};
 
 use der::Offset;
-use grammar::{Entry, Header, Message};
-use message::{ReadFault, Reading};
+use grammar::{Entry, Message};
+use message::ReadFault;
 use parts::{is_present, not_sixteen};
 use protocol::FailureInfo;
 
-// The reader's fault; zeros where there is none.
-pub fn fault_of(reading: Reading) -> ReadFault
-    ensures { result ≡ fault_of reading }
+// What stands in an answer where the message reads, or there is none.
+pub fn no_fault() -> ReadFault
+    ensures { result ≡ no_fault }
 {
-    match reading {
-        Err(fault) => fault,
-        Ok(_) => ReadFault {
-            number: 0,
-            at: Offset(0),
-            rule: 0,
-        },
+    ReadFault {
+        number: 0,
+        at: Offset(0),
+        rule: 0,
     }
 }
 
@@ -35,50 +32,37 @@ pub fn read_refusal(fault: ReadFault) -> u8
 fn other_version(version: u32) -> bool
     ensures { result ≡ not (eqb version 2 || eqb version 3) }
 {
-    if version == 2 {
-        return false;
-    }
-    if version == 3 {
-        return false;
-    }
-    true
+    !matches!(version, 2 | 3)
 }
 
 // 6
-fn unprotected(m: Message, header: Header) -> bool
-    ensures { result ≡ not (is_present m.protection && is_present header.protection_alg) }
+fn unprotected(m: Message) -> bool
+    ensures { result ≡ not (is_present m.protection && is_present m.header.protection_alg) }
 {
-    if is_present(m.protection) {
-        if is_present(header.protection_alg) {
-            return false;
-        }
-    }
-    true
+    !(is_present(m.protection) && is_present(m.header.protection_alg))
 }
 
-// The next row of a table: the number so far, or this one where it applies; 0 is no row's number.
-pub fn or_row(so_far: u8, number: u8, applies: bool) -> u8
-    ensures { result ≡ or_row so_far number applies }
+// The number of the first row of a table that applies: each row is its number and whether it applies.
+pub fn first_row(rows: &[(u8, bool)]) -> Option<u8>
+    ensures { result ≡ number_of (lowest_row (map row_of rows.now)) }
 {
-    if so_far == 0 {
-        if applies {
-            return number;
-        }
-        return 0;
-    }
-    so_far
+    rows.iter()
+        .find(|(_, applies)| *applies)
+        .map(|(number, _)| *number)
 }
 
-// The lowest of the rows 3 to 7 that applies; 0 where none does.
-pub fn head_refusal(message: &[u8], m: Message, good: bool) -> u8
+// The lowest of the rows 3 to 7 that applies.
+#[tactic(auto, unfolding(protocol::specs::Message::fields_of))]
+pub fn head_refusal(message: &[u8], m: Message, good: bool) -> Option<u8>
     ensures { result ≡ number_of (lowest_row (head_rows good (fields_of message.now m))) }
 {
-    let header = m.header;
-    let number = or_row(0, 3, other_version(header.version));
-    let number = or_row(number, 4, not_sixteen(message, header.transaction_id));
-    let number = or_row(number, 5, not_sixteen(message, header.sender_nonce));
-    let number = or_row(number, 6, unprotected(m, header));
-    or_row(number, 7, !good)
+    first_row(&[
+        (3, other_version(m.header.version)),
+        (4, not_sixteen(message, m.header.transaction_id)),
+        (5, not_sixteen(message, m.header.sender_nonce)),
+        (6, unprotected(m)),
+        (7, !good),
+    ])
 }
 
 // The status of the only entry, or of an error; one that is left out counts as 0.
@@ -88,46 +72,23 @@ pub fn status_or_0(entry: Entry) -> u32
     entry.status.unwrap_or(0)
 }
 
-// "11 if Confirmed, else 2"
-fn bit_of_20(confirmed: bool) -> FailureInfo
-    ensures { result ≡ cond confirmed (Some 11) (Some 2) }
-{
-    if confirmed {
-        Some(11)
-    } else {
-        Some(2)
-    }
-}
-
 // 01's column "bit".
+#[tactic(auto, unfolding(protocol::specs::Refusals::bit_of))]
 pub fn bit_of(number: u8, confirmed: bool) -> FailureInfo
     ensures { result ≡ bit_of number confirmed }
 {
     match number {
-        1 => Some(5),
-        2 => Some(5),
+        1 | 2 | 4 => Some(5),
         3 => Some(22),
-        4 => Some(5),
         5 => Some(18),
-        6 => Some(1),
-        7 => Some(1),
-        8 => Some(2),
-        9 => Some(2),
+        6 | 7 => Some(1),
+        8 | 9 | 12 | 15..=18 => Some(2),
         10 => Some(21),
         11 => Some(24),
-        12 => Some(2),
         13 => Some(23),
         14 => Some(13),
-        15 => Some(2),
-        16 => Some(2),
-        17 => Some(2),
-        18 => Some(2),
         19 => Some(4),
-        20 => bit_of_20(confirmed),
-        21 => None,
-        30 => None,
-        31 => None,
-        32 => None,
+        20 => Some(if confirmed { 11 } else { 2 }),
         _ => None,
     }
 }

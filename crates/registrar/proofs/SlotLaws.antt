@@ -1,17 +1,21 @@
 -- The table by slots, as the code has it: what an id names stands in its slot, and is stored there; so with the lowest free slot.
 use Prim.Native.Nat.{ℕ, zero, suc, ◌+◌, ◌<◌, ◌≤◌}
 use mathlib.Core.List.{List, [], ◌∷◌}
-use mathlib.Core.Bool.{Bool, true, false, cond}
+use mathlib.Core.Bool.{Bool, true, false, cond, not, true≢false}
 use mathlib.Core.Option.{none, some}
 use mathlib.Core.Path.{◌≡◌, refl, ap}
 use native.Mathlib.Omega.{arith}
-use native.Mathlib.Numerals.{add-one}
 use native.Mathlib.Nat.{le_of_suc-le-suc}
-use lib.ListN.{length, drop, get_or, set, drop_of_length-le}
-use lib.Seq.{drop-cons}
+use lib.ListN.{length, get_or, set}
+use Rattle.std.specs.Prelude.{Some, None}
+use Rattle.std.specs.Prelude as code
+use Rattle.std.specs.List.{position_or_len}
+use lib.Dec.{ltb}
+use borrow.Author.Tests.{ltb-true, ltb-false}
 use Rattle.protocol.specs.declared.TransactionId.{TransactionId}
 use Rattle.protocol.specs.declared.Transaction.{Transaction}
 use Rattle.protocol.specs.Table.{is_free, is_for, lookup, slot_of, replace, has_free_slot, free_slot, put}
+use Rattle.registrar.specs.Steps.{found_in, place_in}
 
 -- ## Elements past the end
 
@@ -32,18 +36,15 @@ set_past (y ∷ ys) (suc i) x h = rw (set_past ys i x (le_of_suc-le-suc h))
 
 -- ## The slot that an id names
 
-module _ (rs : List Transaction) (id : TransactionId) (i : ℕ) (h : slot_of rs id ≡ i + slot_of (drop i rs) id) where
-  pub slot_here : (d : Transaction) → i < length rs → is_for id (get_or rs i d) ≡ true → i ≡ slot_of rs id
-  unfolding slot_of
-  slot_here d p e = let z : slot_of (drop i rs) id ≡ 0 = rw (drop-cons rs i d p, e) in omega arith
+-- std's `position` counts as the definitions do
+place_at : (b : Bool) {m n : ℕ} → m ≡ n → cond (not b) (1 + m) 0 ≡ cond b 0 (suc n)
+place_at true e = refl
+place_at false e = omega arith
 
-  pub slot_further : (d : Transaction) → i < length rs → is_for id (get_or rs i d) ≡ false → slot_of rs id ≡ i + 1 + slot_of (drop (i + 1) rs) id
-  unfolding slot_of
-  slot_further d p e = let z : slot_of (drop i rs) id ≡ suc (slot_of (drop (i + 1) rs) id) = rw (add-one i, drop-cons rs i d p, e) in omega arith
-
-  pub slot-end : length rs ≤ i → i ≡ slot_of rs id
-  unfolding slot_of
-  slot-end p = let z : slot_of (drop i rs) id ≡ 0 = rw (drop_of_length-le rs p) in omega arith
+slot_of-is : (rs : List Transaction) (i : TransactionId) → position_or_len (is_for i) rs ≡ slot_of rs i
+unfolding slot_of
+slot_of-is [] i = refl
+slot_of-is (r ∷ rs) i = place_at (is_for i r) (slot_of-is rs i)
 
 some_at : (i : TransactionId) (r : Transaction) (rs : List Transaction) (d : Transaction) → (slot_of rs i < length rs → lookup rs i ≡ some (get_or rs (slot_of rs i) d)) → (b : Bool) → cond b 0 (suc (slot_of rs i)) < suc (length rs) → cond b (some r) (lookup rs i) ≡ some (get_or (r ∷ rs) (cond b 0 (suc (slot_of rs i))) d)
 some_at i r rs d ih true p = refl
@@ -74,18 +75,10 @@ slot-set (r ∷ rs) i x = replace-at r x rs (replace rs i x) (slot_of rs i) (slo
 
 -- ## The lowest free slot
 
-module _ (rs : List Transaction) (i : ℕ) (h : free_slot rs ≡ i + free_slot (drop i rs)) where
-  pub free_here : (d : Transaction) → i < length rs → is_free (get_or rs i d).state ≡ true → i ≡ free_slot rs
-  unfolding free_slot
-  free_here d p e = let z : free_slot (drop i rs) ≡ 0 = rw (drop-cons rs i d p, e) in omega arith
-
-  pub free_further : (d : Transaction) → i < length rs → is_free (get_or rs i d).state ≡ false → free_slot rs ≡ i + 1 + free_slot (drop (i + 1) rs)
-  unfolding free_slot
-  free_further d p e = let z : free_slot (drop i rs) ≡ suc (free_slot (drop (i + 1) rs)) = rw (add-one i, drop-cons rs i d p, e) in omega arith
-
-  pub free-end : length rs ≤ i → i ≡ free_slot rs
-  unfolding free_slot
-  free-end p = let z : free_slot (drop i rs) ≡ 0 = rw (drop_of_length-le rs p) in omega arith
+free_slot-is : (rs : List Transaction) → position_or_len (λ (t : Transaction). is_free t.state) rs ≡ free_slot rs
+unfolding free_slot
+free_slot-is [] = refl
+free_slot-is (r ∷ rs) = place_at (is_free r.state) (free_slot-is rs)
 
 pub free-set : (rs : List Transaction) (x : Transaction) → set rs (free_slot rs) x ≡ put rs x
 unfolding free_slot put
@@ -110,5 +103,47 @@ unfolding free_slot has_free_slot
 room_no [] p = refl
 room_no (r ∷ rs) p = no_at (has_free_slot rs) (free_slot rs) (length rs) (λ q. room_no rs q) (is_free r.state) p
 
--- whether there is room, by the slot
-pub ruleset room = (room-yes, room_no)
+-- no slot is free: their number stands for the lowest, and nothing is stored
+full_at : (b : Bool) {h : Bool} {n m : ℕ} {qs rs : List Transaction} (r x : Transaction) → (h ≡ false → (n ≡ m) × (qs ≡ rs)) → cond b true h ≡ false → (cond b 0 (suc n) ≡ suc m) × (cond b (x ∷ rs) (r ∷ qs) ≡ r ∷ rs)
+full_at true r x ih e = absurd (true≢false e)
+full_at false r x ih e = (ap suc (ih e).0, ap (λ (l : List Transaction). r ∷ l) (ih e).1)
+
+pub full : (rs : List Transaction) (x : Transaction) → has_free_slot rs ≡ false → (free_slot rs ≡ length rs) × (put rs x ≡ rs)
+unfolding free_slot has_free_slot put
+full [] x e = (refl, refl)
+full (r ∷ rs) x e = full_at (is_free r.state) r x (full rs x) e
+
+-- ## What the code makes of a place that `position` gives, and of none
+
+abbrev Position : (Transaction → Bool) → List Transaction → code.Option ℕ → Type 0
+Position t rs o = o ≡ cond (ltb (position_or_len t rs) (length rs)) (Some (position_or_len t rs)) None
+
+module _ (rs : List Transaction) (i : TransactionId) (o : code.Option ℕ) (e : Position (is_for i) rs o) where
+  by-slot : o ≡ cond (ltb (slot_of rs i) (length rs)) (Some (slot_of rs i)) None
+  by-slot = rw slot_of-is at e
+
+  pub finds : (o ≡ None → None ≡ found_in (lookup rs i) (slot_of rs i)) × ((k : ℕ) (d : Transaction) → o ≡ Some k → Some (record { 0 = k }, get_or rs k d) ≡ found_in (lookup rs i) (slot_of rs i))
+  finds = by (ltb (slot_of rs i) (length rs)) refl
+    where
+      by : (b : Bool) → ltb (slot_of rs i) (length rs) ≡ b → (o ≡ None → None ≡ found_in (lookup rs i) (slot_of rs i)) × ((k : ℕ) (d : Transaction) → o ≡ Some k → Some (record { 0 = k }, get_or rs k d) ≡ found_in (lookup rs i) (slot_of rs i))
+      by true t =
+          let q : o ≡ Some (slot_of rs i) = rw t at by-slot in
+          (λ n. cc, λ k d s. let p : k ≡ slot_of rs i = cc in rw (p, slot_some rs i d (ltb-true (slot_of rs i) (length rs) t)))
+      by false t =
+          let q : o ≡ None = rw t at by-slot in
+          (λ n. rw (slot-none rs i (ltb-false (slot_of rs i) (length rs) t)), λ k d s. cc)
+
+module _ (rs : List Transaction) (o : code.Option ℕ) (e : Position (λ (t : Transaction). is_free t.state) rs o) where
+  by-free : o ≡ cond (ltb (free_slot rs) (length rs)) (Some (free_slot rs)) None
+  by-free = rw free_slot-is at e
+
+  pub frees : (o ≡ None → None ≡ place_in (has_free_slot rs) (free_slot rs)) × ((k : ℕ) → o ≡ Some k → Some (record { 0 = k }) ≡ place_in (has_free_slot rs) (free_slot rs))
+  frees = by (ltb (free_slot rs) (length rs)) refl
+    where
+      by : (b : Bool) → ltb (free_slot rs) (length rs) ≡ b → (o ≡ None → None ≡ place_in (has_free_slot rs) (free_slot rs)) × ((k : ℕ) → o ≡ Some k → Some (record { 0 = k }) ≡ place_in (has_free_slot rs) (free_slot rs))
+      by true t =
+          let q : o ≡ Some (free_slot rs) = rw t at by-free in
+          (λ n. cc, λ k s. let p : k ≡ free_slot rs = cc in rw (p, room-yes rs (ltb-true (free_slot rs) (length rs) t)))
+      by false t =
+          let q : o ≡ None = rw t at by-free in
+          (λ n. rw (room_no rs (ltb-false (free_slot rs) (length rs) t)), λ k s. cc)

@@ -1,86 +1,71 @@
 -- A message's step by the slot and the copies that the code makes.
-use Rattle.std.specs.Prelude.{Ok, Err}
+use Rattle.std.specs.Prelude.{Ok, Err, Some, None}
+use Rattle.std.specs.Prelude as code
 use Prim.Native.Nat.{ℕ, ◌<◌, ◌≤◌}
 use mathlib.Core.List.{List}
-use mathlib.Core.Bool.{Bool, true, false, cond}
+use mathlib.Core.Bool.{Bool, true, false}
 use mathlib.Core.Option.{Option, none, some, get_or}
 use mathlib.Core.Path.{◌≡◌, refl, sym, ◌∙◌}
 use mathlib.Core.Logic.{inl, inr}
 use native.Mathlib.Omega.{arith}
-use borrow.Author.Tests.{ltb-true, ltb-false, leb-true, eq-eqb, ne_eqb, lt-ltb, le-ltb}
+use borrow.Author.Tests.{leb-true, ne_eqb}
 use lib.ListN.{length}
-use lib.Dec.{leb, ltb}
+use lib.Dec.{leb}
 use Rattle.grammar.specs.declared.Message.{Message}
 use Rattle.message.specs.Read.{reading_of}
 use Rattle.message.specs.declared.ReadFault.{ReadFault}
 use Rattle.message.specs.Types.{Reading}
 use Rattle.protocol.specs.declared.TransactionId.{TransactionId}
 use Rattle.protocol.specs.declared.Nonce.{Nonce}
-use Rattle.protocol.specs.declared.FreshNonce.{FreshNonce}
-use Rattle.protocol.specs.declared.Board.{Board}
-use Rattle.protocol.specs.declared.TransactionState.{TransactionState}
+use Rattle.protocol.specs.declared.Slot.{Slot}
 use Rattle.protocol.specs.declared.Transaction.{Transaction}
-use Rattle.protocol.specs.declared.TransactionState.TheVariants.{Asked}
 use Rattle.protocol.specs.declared.TransactionTable.{TransactionTable}
 use Rattle.protocol.specs.declared.RegistrarInput.{RegistrarInput}
-use Rattle.protocol.specs.declared.Outgoing.{Outgoing}
 use Rattle.protocol.specs.declared.RegistrarAnswer.{RegistrarAnswer}
-use Rattle.protocol.specs.Bytes.{as_id, as_nonce, no_nonce, no_hash}
+use Rattle.protocol.specs.Bytes.{as_id, as_nonce}
 use Rattle.grammar.specs.Span.{part_of}
-use Rattle.protocol.specs.Message.{Fields, fields_of, is_opening_kind, status_or0}
-use Rattle.protocol.specs.Outgoing.{pki_conf_out}
-use Rattle.protocol.specs.Table.{capacity, lookup, slot_of, free_slot, put, free_transaction}
-use Rattle.protocol.specs.States.{is_granted, is_confirmed, settled_state}
+use Rattle.protocol.specs.Message.{Fields, fields_of, status_or0}
+use Rattle.protocol.specs.Table.{capacity, lookup, slot_of, has_free_slot, free_slot, put, free_transaction}
+use Rattle.protocol.specs.States.{is_confirmed, settled_state}
 use Rattle.protocol.specs.Refusals.{pass, stop, lowest_row, head_rows, bit_of, not_sixteen}
 use Rattle.protocol.specs.RegistrarRows.{is_good, later_rows, registrar_rows}
-use Rattle.protocol.specs.Registrar.{board_named, refused_quietly, done_quietly, done_sending, settled, confirmed_at, refused_message, confirmed_found, refused_reading, registrar_checked, registrar_fields, registrar_read, registrar_message}
+use Rattle.protocol.specs.Registrar.{done_quietly, settled, confirmed_at, refused_message, confirmed_found, refused_reading, registrar_checked, registrar_fields, registrar_read, registrar_message}
 use Rattle.protocol.proofs.Tests.{passes}
 use Rattle.protocol.specs.Promises.{Applies}
 use Rattle.protocol.proofs.Rows.{least, stops}
 use Rattle.parts.specs.Parts.{sixteen_of}
-use Rattle.incoming.specs.Incoming.{number_of, fault_of}
+use Rattle.incoming.specs.Incoming.{number_of}
 use Rattle.parts.proofs.Laws.{copy_is}
-use Rattle.incoming.proofs.RowLaws.{check_append, or_else, stops_at, passes_all, all_positive}
-use Rattle.registrar.specs.Steps.{held_at, with_at, found_by, refusal_answer, confirmation, taken_at, repeated, Copied}
-use Rattle.registrar.proofs.SlotLaws.{free-set, slot-set, get_d_past}
-use Rattle.registrar.proofs.HostLaws.{missing, found}
+use Rattle.incoming.proofs.RowLaws.{check_append, or_else, stops_at, passes_all}
+use Rattle.registrar.specs.Steps.{with_at, found_in, found_by, place_in, refusal_answer, confirmation_of, taken_at, Copied}
+use Rattle.registrar.proofs.RowLaws.{found_is}
+use Rattle.registrar.proofs.SlotLaws.{free-set, full, slot-set}
 
--- ## The two answers that are not refusals
+-- ## A request that is taken
 
-pub open_is :
-    (t : TransactionTable) {p : ℕ} (x : Transaction) {u : TransactionTable} → u ≡ with_at t p x → p ≡ free_slot t.transactions →
-    done_quietly p u.transactions ≡ done_quietly (free_slot t.transactions) (put t.transactions x)
-open_is t x e q = rw (e, q, free-set t.transactions x)
+module _ (t : TransactionTable) (x : Transaction) {o : code.Option Slot} (e : o ≡ place_in (has_free_slot t.transactions) (free_slot t.transactions)) where
+  abbrev Opened : RegistrarAnswer
+  Opened = done_quietly (free_slot t.transactions) (put t.transactions x)
 
--- a confirmation by what the code makes for it: the acknowledgement o, the next state w
-module _ (t : TransactionTable) (p : ℕ) (r : Transaction) (n : FreshNonce) (i : TransactionId) (a : Nonce) (s : ℕ) {o : Outgoing} (eo : o ≡ pki_conf_out i n a) where
-  pub confirm_moves :
-      {u : TransactionTable} {x : Transaction} → u ≡ with_at t p x →
-      {w : TransactionState} → w ≡ settled_state s → x ≡ settled r w a →
-      is_granted r.state ≡ true → done_sending p u.transactions o ≡ confirmation t p r n i a s
-  confirm_moves e ew ex g = rw (g, e, ex, ew, eo)
+  none-free : (b : Bool) (p : ℕ) → None ≡ place_in b p → b ≡ false
+  none-free true p q = cc
+  none-free false p q = refl
 
-  pub confirm_again : is_granted r.state ≡ false → repeated p t o ≡ confirmation t p r n i a s
-  confirm_again g = rw (g, eo)
+  the-slot : (b : Bool) (p : ℕ) (s : Slot) → Some s ≡ place_in b p → s.0 ≡ p
+  the-slot true p s q = cc
+  the-slot false p s q = cc
 
--- ## By the kind
+  pub open-full : length t.transactions ≡ capacity → o ≡ None → done_quietly capacity t.transactions ≡ Opened
+  open-full n q = let z = full t.transactions x (none-free (has_free_slot t.transactions) (free_slot t.transactions) (sym q ∙ e)) in rw (z.0, z.1, n)
 
-module _ (t : TransactionTable) (p : ℕ) (r : Transaction) (k s : ℕ) (d : RegistrarInput) (i : TransactionId) (a : Nonce) where
-  pub taken-opens :
-      {b : Board} → b ≡ board_named d.verdict → is_opening_kind k ≡ true →
-      done_quietly (free_slot t.transactions) (put t.transactions (record { id = i; board = b; kind = k; taken = a; sent = no_nonce; hash = no_hash; state = Asked })) ≡ taken_at t p r k s d i a
-  taken-opens e o = rw (e, o)
-
-  pub taken-confirms : is_opening_kind k ≡ false → k ≡ 24 → p < capacity → confirmation t p r d.nonce i a s ≡ taken_at t p r k s d i a
-  taken-confirms o q h = rw (o, eq-eqb k 24 q, lt-ltb p capacity h)
-
-  pub taken-unknown : is_opening_kind k ≡ false → k ≡ 24 → capacity ≤ p → refused_quietly 12 t ≡ taken_at t p r k s d i a
-  taken-unknown o q h = rw (o, eq-eqb k 24 q, le-ltb p capacity h)
-
-  pub taken-neither : is_opening_kind k ≡ false → (k ≡ 24 → ⊥) → refused_quietly 8 t ≡ taken_at t p r k s d i a
-  taken-neither o q = rw (o, ne_eqb k 24 q)
+  pub open_is : {s : Slot} {u : TransactionTable} → o ≡ Some s → u ≡ with_at t s.0 x → done_quietly s.0 u.transactions ≡ Opened
+  open_is {s} q w = rw (w, the-slot (has_free_slot t.transactions) (free_slot t.transactions) s (sym q ∙ e), free-set t.transactions x)
 
 -- ## After the first five rows
+
+confirmed-is : (f : Option Transaction) → confirmed_at f ≡ is_confirmed (get_or f free_transaction).state
+confirmed-is none = refl
+confirmed-is (some r) = refl
 
 module _ (t : TransactionTable) (d : RegistrarInput) {bytes : List ℕ} {msg : Message} {i : TransactionId} {a : Nonce} (copied : Copied bytes msg i a) where
   abbrev m : Fields
@@ -95,67 +80,43 @@ module _ (t : TransactionTable) (d : RegistrarInput) {bytes : List ℕ} {msg : M
   abbrev later : RegistrarAnswer
   later = registrar_checked (lowest_row (later_rows ts f d.verdict (get_or f free_transaction) m)) f t d m
 
-  module _ {p : ℕ} (slot : (p ≡ slot_of t.transactions i) × (length t.transactions ≡ capacity)) {r : Transaction} (h : r ≡ held_at t.transactions p) where
-    -- what the slot tells of the transaction with the id
-    pub record Tells (k : Bool) : Type 0 where
-      pub found : lookup t.transactions i ≡ found_by k r
-      pub held : get_or (lookup t.transactions i) free_transaction ≡ r
-      pub confirmed : confirmed_at (lookup t.transactions i) ≡ is_confirmed r.state
+  module _ {o : code.Option (Slot × Transaction)} (eo : o ≡ found_in f (slot_of ts i)) where
+    found : found_by o ≡ f
+    found = rw eo (found_is f (slot_of ts i))
 
-    free-past : capacity ≤ p → free_transaction ≡ r
-    free-past q = sym (h ∙ get_d_past ts p free_transaction (omega arith))
+    module _ {n : code.Option ℕ} (en : n ≡ number_of (lowest_row (later_rows ts (found_by o) d.verdict (get_or (found_by o) free_transaction) m))) where
+      later_number : n ≡ number_of (lowest_row (later_rows ts f d.verdict (get_or f free_transaction) m))
+      later_number = rw found at en
 
-    tells : (k : Bool) → k ≡ ltb p capacity → Tells k
-    tells true e = let q : lookup ts i ≡ some r = found t i slot h (ltb-true p capacity (sym e)) in record { found = q; held = rw q; confirmed = rw q }
-    tells false e =
-        let z : capacity ≤ p = ltb-false p capacity (sym e) in
-        let q : lookup ts i ≡ none = missing t i slot z in
-        record { found = q; held = rw q (free-past z); confirmed = rw (q, ← free-past z) }
-
-    abbrev k : Bool
-    k = ltb p capacity
-
-    told_now : Tells k
-    told_now = tells k refl
-
-    module _ {n : ℕ} (en : n ≡ number_of (lowest_row (later_rows ts (found_by k r) d.verdict r m))) where
-      rows_are : lowest_row (later_rows ts f d.verdict (get_or f free_transaction) m) ≡ lowest_row (later_rows ts (found_by k r) d.verdict r m)
-      rows_are = rw (told_now.held, told_now.found)
-
-      pub later_refused : {c : Bool} → c ≡ is_confirmed r.state → (n ≡ 0 → ⊥) → refusal_answer n c t d.nonce i a ≡ later
+      pub later_refused : {k : ℕ} {c : Bool} → c ≡ is_confirmed (get_or (found_by o) free_transaction).state → n ≡ Some k → refusal_answer k c t d.nonce i a ≡ later
       unfolding registrar_checked
-      later_refused ec z =
+      later_refused {k} ec z =
           rw (
             ec,
-            rows_are,
-            stops_at (lowest_row (later_rows ts (found_by k r) d.verdict r m)) n en z,
-            told_now.confirmed,
+            found,
+            stops_at (lowest_row (later_rows ts f d.verdict (get_or f free_transaction) m)) k (sym z ∙ later_number),
+            confirmed-is f,
             ← copied.id,
             ← copied.nonce,
           )
 
-      passes_it_lem : n ≡ 0 → lowest_row (later_rows ts f d.verdict (get_or f free_transaction) m) ≡ pass
-      unfolding all_positive
-      passes_it_lem z = rows_are ∙ passes_all (later_rows ts (found_by k r) d.verdict r m) refl (sym z ∙ en)
-
-      confirmed_by : (b : Bool) → cond b (confirmation t p r d.nonce i a (status_or0 m.status)) (refused_quietly 12 t) ≡ confirmed_found (found_by b r) t d.nonce m
-      confirmed_by true =
+      confirmed_by : (g : Option Transaction) → confirmation_of (found_in g (slot_of ts i)) t d.nonce i a (status_or0 m.status) ≡ confirmed_found g t d.nonce m
+      confirmed_by none = refl
+      confirmed_by (some r) =
           rw (
             ← copied.id,
             ← copied.nonce,
-            slot.0,
             slot-set ts i (settled r (settled_state (status_or0 m.status)) a),
           )
-      confirmed_by false = refl
 
-      pub later_taken : {s : ℕ} → s ≡ status_or0 m.status → n ≡ 0 → taken_at t p r m.kind s d i a ≡ later
+      pub later_taken : {s : ℕ} → s ≡ status_or0 m.status → n ≡ None → taken_at t o m.kind s d i a ≡ later
       unfolding registrar_checked
       later_taken es z =
           rw (
             es,
-            passes_it_lem z,
-            told_now.found,
-            ← confirmed_by k,
+            passes_all (lowest_row (later_rows ts f d.verdict (get_or f free_transaction) m)) (sym z ∙ later_number),
+            eo,
+            confirmed_by f,
             ← copied.id,
             ← copied.nonce,
           )
@@ -226,36 +187,35 @@ module _
   same-refusal n e false z = rw (z, bit-plain n (confirmed_at named) (head_below good F n e))
 
   -- the first five rows as the code asks them, with its own answer on the verdict
-  module _ {g : Bool} (eg : g ≡ is_good d.verdict) {n : ℕ} (en : n ≡ number_of (lowest_row (head_rows g (fields_of bytes m)))) where
+  module _ {g : Bool} (eg : g ≡ is_good d.verdict) {n : code.Option ℕ} (en : n ≡ number_of (lowest_row (head_rows g (fields_of bytes m)))) where
     number_is : n ≡ number_of (lowest_row (head_rows good F))
     number_is = rw eg at en
 
-    pub head-refused : (n ≡ 0 → ⊥) → refusal_answer n false t d.nonce i a ≡ registrar_fields t d (fields_of bytes m)
+    pub head-refused : {k : ℕ} → n ≡ Some k → refusal_answer k false t d.nonce i a ≡ registrar_fields t d (fields_of bytes m)
     unfolding registrar_fields registrar_checked
-    head-refused z =
-        let e : lowest_row (head_rows good F) ≡ stop n = stops_at (lowest_row (head_rows good F)) n number_is z in
-        same-refusal n e (leb 6 n) refl ∙ rw (all_rows, e)
+    head-refused {k} z =
+        let e : lowest_row (head_rows good F) ≡ stop k = stops_at (lowest_row (head_rows good F)) k (sym z ∙ number_is) in
+        same-refusal k e (leb 6 k) refl ∙ rw (all_rows, e)
 
-    head-pass : n ≡ 0 → lowest_row (head_rows good F) ≡ pass
-    unfolding all_positive
-    head-pass z = passes_all (head_rows good F) refl (sym z ∙ number_is)
+    head-pass : n ≡ None → lowest_row (head_rows good F) ≡ pass
+    head-pass z = passes_all (lowest_row (head_rows good F)) (sym z ∙ number_is)
 
-    pub head_copied : n ≡ 0 → Copied bytes m i a
+    pub head_copied : n ≡ None → Copied bytes m i a
     head_copied z = record { id = copied_id (passes 4 (head_rows good F) (head-pass z)); nonce = copied_nonce (passes 5 (head_rows good F) (head-pass z)) }
 
     abbrev fs : Option Transaction
     fs = lookup t.transactions i
 
-    pub head_passed : n ≡ 0 → registrar_checked (lowest_row (later_rows t.transactions fs d.verdict (get_or fs free_transaction) F)) fs t d F ≡ registrar_fields t d F
+    pub head_passed : n ≡ None → registrar_checked (lowest_row (later_rows t.transactions fs d.verdict (get_or fs free_transaction) F)) fs t d F ≡ registrar_fields t d F
     unfolding registrar_fields
     head_passed z = rw (all_rows, head-pass z, (head_copied z).id)
 
 -- ## The reading taken apart
 
 module _ (t : TransactionTable) (d : RegistrarInput) (bytes : List ℕ) {x : Reading} (e : x ≡ reading_of bytes) where
-  pub unread : {f : ReadFault} → x ≡ Err f → {g : ReadFault} → g ≡ fault_of x → refused_reading g t ≡ registrar_message t d bytes
+  pub unread : {f : ReadFault} → x ≡ Err f → refused_reading f t ≡ registrar_message t d bytes
   unfolding registrar_message registrar_read
-  unread q eg = rw (eg, ← e, q)
+  unread q = rw (← e, q)
 
   pub clean : {m : Message} → x ≡ Ok m → registrar_fields t d (fields_of bytes m) ≡ registrar_message t d bytes
   unfolding registrar_message registrar_read

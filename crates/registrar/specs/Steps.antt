@@ -1,9 +1,11 @@
 -- The registrar's steps once more, over the slot and the plain values that the code hands on.
-use Rattle.std.specs.Prelude.{ℕ, List, Bool, true, false, cond, ◌≡◌, get_or, set, eqb, leb, ltb, Some, None}
+use Rattle.std.specs.Prelude.{ℕ, List, Bool, true, false, cond, ◌≡◌, get_or, set, eqb, leb, Some, None}
+use Rattle.std.specs.Prelude as code
 use Rattle.std.proofs.Math.Option
 use Rattle.std.proofs.Math.Option.{Option, none, some}
 use Rattle.grammar.specs.declared.Message.{Message}
 use Rattle.protocol.specs.declared.Board.{Board}
+use Rattle.protocol.specs.declared.Slot.{Slot}
 use Rattle.protocol.specs.declared.TransactionId.{TransactionId}
 use Rattle.protocol.specs.declared.Nonce.{Nonce}
 use Rattle.protocol.specs.declared.FreshNonce.{FreshNonce}
@@ -19,11 +21,11 @@ use Rattle.protocol.specs.declared.Outcome.TheVariants as outcome
 use Rattle.protocol.specs.Bytes.{as_id, as_nonce, no_nonce, no_hash, nonce_from}
 use Rattle.protocol.specs.Message.{Fields, fields_of, is_opening_kind, cert_conf}
 use Rattle.protocol.specs.Outgoing.{silent, error_out, pki_conf_out, response_out}
-use Rattle.protocol.specs.Table.{capacity, free_transaction, lookup, free_slot, put}
+use Rattle.protocol.specs.Table.{free_transaction, lookup, free_slot, put}
 use Rattle.protocol.specs.States.{is_granted, settled_state}
 use Rattle.protocol.specs.Refusals.{lowest_row, bit_of, no_fault}
 use Rattle.protocol.specs.RegistrarRows.{later_rows}
-use Rattle.protocol.specs.Registrar.{board_named, refused_quietly, done_quietly, done_sending, settled, responded, registrar_checked}
+use Rattle.protocol.specs.Registrar.{board_named, refused_quietly, done_quietly, done_sending, settled, responded, registrar_checked, host_step}
 
 -- ## Slots
 
@@ -35,10 +37,20 @@ held_at rs p = get_or rs p free_transaction
 abbrev pub with_at : TransactionTable → ℕ → Transaction → TransactionTable
 with_at t p x = record { transactions = set t.transactions p x }
 
--- the transaction r, if there is one
-abbrev pub found_by : (known : Bool) → Transaction → Option Transaction
-found_by true r = some r
-found_by false r = none
+-- what the code hands on of a search: the transaction, if there is one, with its slot p
+abbrev pub found_in : Option Transaction → (p : ℕ) → code.Option (Slot × Transaction)
+found_in none p = None
+found_in (some r) p = Some (record { 0 = p }, r)
+
+-- the transaction of that
+abbrev pub found_by : code.Option (Slot × Transaction) → Option Transaction
+found_by None = none
+found_by (Some x) = some x.1
+
+-- the slot p, where there is one
+abbrev pub place_in : Bool → (p : ℕ) → code.Option Slot
+place_in true p = Some (record { 0 = p })
+place_in false p = None
 
 -- ## Answers
 
@@ -66,13 +78,17 @@ abbrev pub confirmation : TransactionTable → (p : ℕ) → (r : Transaction) �
 confirmation t p r n i a s =
     cond (is_granted r.state) (done_sending p (set t.transactions p (settled r (settled_state s) a)) (pki_conf_out i n a)) (repeated p t (pki_conf_out i n a))
 
--- a message that no row refuses, by its kind k: for the transaction r in the slot p, or for a new one. No certConf without a
--- transaction (12) and no other kind (8) comes here
-abbrev pub taken_at : TransactionTable → (p : ℕ) → (r : Transaction) → (k status : ℕ) → RegistrarInput → (i : TransactionId) → (a : Nonce) → RegistrarAnswer
-taken_at t p r k s d i a =
+-- the same for what was found; without a transaction none comes here (12)
+abbrev pub confirmation_of : code.Option (Slot × Transaction) → TransactionTable → (fresh : FreshNonce) → (i : TransactionId) → (a : Nonce) → (status : ℕ) → RegistrarAnswer
+confirmation_of None t n i a s = refused_quietly 12 t
+confirmation_of (Some x) t n i a s = confirmation t x.0.0 x.1 n i a s
+
+-- a message that no row refuses, by its kind k: for what was found, or for a new transaction. Of another kind none comes here (8)
+abbrev pub taken_at : TransactionTable → code.Option (Slot × Transaction) → (k status : ℕ) → RegistrarInput → (i : TransactionId) → (a : Nonce) → RegistrarAnswer
+taken_at t o k s d i a =
     cond (is_opening_kind k)
     (done_quietly (free_slot t.transactions) (put t.transactions (asked_transaction i (board_named d.verdict) k a)))
-    (cond (eqb k cert_conf) (cond (ltb p capacity) (confirmation t p r d.nonce i a s) (refused_quietly 12 t)) (refused_quietly 8 t))
+    (cond (eqb k cert_conf) (confirmation_of o t d.nonce i a s) (refused_quietly 8 t))
 
 -- a response of this status for the transaction r in the slot p, which then is in the state s
 abbrev pub response_answer : TransactionTable → (p : ℕ) → (r : Transaction) → TransactionId → TransactionState → (status : ℕ) → FreshNonce → Hash → RegistrarAnswer
@@ -88,3 +104,13 @@ headed t x i m =
 pub record Copied (bytes : List ℕ) (m : Message) (i : TransactionId) (a : Nonce) : Type 0 where
   pub id : i ≡ as_id (fields_of bytes m).id
   pub nonce : a ≡ as_nonce (fields_of bytes m).sender_nonce
+
+-- ## The host's steps
+
+-- the answer is the host's step for the id i, for any test and any end that the code's own, M and A, come to
+abbrev pub StepsBy : (M : Transaction → Bool → Type 0) → (A : Transaction → RegistrarAnswer → Type 0) → TransactionTable → (i : TransactionId) → (answer : RegistrarAnswer) → Type 0
+StepsBy M A t i answer =
+    (ok : Transaction → Bool) (f : Transaction → RegistrarAnswer) →
+    ((x : Transaction) (b : Bool) → M x b → b ≡ ok x) →
+    ((x : Transaction) (y : RegistrarAnswer) → A x y → y ≡ f x) →
+    answer ≡ host_step (lookup t.transactions i) t ok f

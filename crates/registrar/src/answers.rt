@@ -1,23 +1,48 @@
-// The forms of the registrar's answers.
+// The forms of the registrar's answers, each made from a plainer one.
 ghost use Rattle.std.specs.Prelude.{◌≡◌};
-ghost use Rattle.protocol.specs.Refusals.{no_fault};
 ghost use Rattle.protocol.specs.Registrar.{refused_quietly, refused_reading, done_quietly, done_sending};
 ghost use Rattle.registrar.specs.Steps.{refusal_answer, repeated};
 
-use der::Offset;
-use incoming::rows::{bit_of, read_refusal};
+use incoming::rows::{bit_of, no_fault, read_refusal};
 use message::ReadFault;
 use protocol::{
     FreshNonce, Nonce, Outcome, Outgoing, RegistrarAnswer, Slot, TransactionId, TransactionTable,
 };
 
-fn no_fault() -> ReadFault
-    ensures { result ≡ no_fault }
+// Done at this slot, with nothing to send.
+pub(crate) fn done_quietly(slot: Slot, table: TransactionTable) -> RegistrarAnswer
+    ensures { result ≡ done_quietly slot.0 table.transactions }
 {
-    ReadFault {
-        number: 0,
-        at: Offset(0),
-        rule: 0,
+    RegistrarAnswer {
+        outcome: Outcome::Done,
+        fault: no_fault(),
+        slot,
+        outgoing: None,
+        table,
+    }
+}
+
+// Done at this slot, with this to send.
+pub(crate) fn done_sending(
+    slot: Slot,
+    table: TransactionTable,
+    outgoing: Outgoing,
+) -> RegistrarAnswer
+    ensures { result ≡ done_sending slot.0 table.transactions outgoing }
+{
+    RegistrarAnswer {
+        outgoing: Some(outgoing),
+        ..done_quietly(slot, table)
+    }
+}
+
+// "again": the same acknowledgement, and no change.
+pub(crate) fn again(slot: Slot, table: TransactionTable, outgoing: Outgoing) -> RegistrarAnswer
+    ensures { result ≡ repeated slot.0 table outgoing }
+{
+    RegistrarAnswer {
+        outcome: Outcome::Again,
+        ..done_sending(slot, table, outgoing)
     }
 }
 
@@ -27,11 +52,7 @@ pub(crate) fn refused_quietly(number: u8, table: TransactionTable) -> RegistrarA
 {
     RegistrarAnswer {
         outcome: Outcome::Refused(number, bit_of(number, false)),
-        fault: no_fault(),
-        slot: Slot(0),
-        sends: false,
-        outgoing: outgoing::silent(),
-        table,
+        ..done_quietly(Slot(0), table)
     }
 }
 
@@ -39,14 +60,9 @@ pub(crate) fn refused_quietly(number: u8, table: TransactionTable) -> RegistrarA
 pub(crate) fn refused_reading(fault: ReadFault, table: TransactionTable) -> RegistrarAnswer
     ensures { result ≡ refused_reading fault table }
 {
-    let number = read_refusal(fault);
     RegistrarAnswer {
-        outcome: Outcome::Refused(number, bit_of(number, false)),
         fault,
-        slot: Slot(0),
-        sends: false,
-        outgoing: outgoing::silent(),
-        table,
+        ..refused_quietly(read_refusal(fault), table)
     }
 }
 
@@ -62,68 +78,15 @@ pub(crate) fn refused_message(
     ensures { result ≡ refusal_answer number confirmed table fresh id answered }
 {
     let bit = bit_of(number, confirmed);
+    let refused = RegistrarAnswer {
+        outcome: Outcome::Refused(number, bit),
+        ..done_quietly(Slot(0), table)
+    };
     if 6 <= number {
         return RegistrarAnswer {
-            outcome: Outcome::Refused(number, bit),
-            fault: no_fault(),
-            slot: Slot(0),
-            sends: true,
-            outgoing: outgoing::error(id, fresh, answered, bit),
-            table,
+            outgoing: Some(outgoing::error(id, fresh, answered, bit)),
+            ..refused
         };
     }
-    RegistrarAnswer {
-        outcome: Outcome::Refused(number, bit),
-        fault: no_fault(),
-        slot: Slot(0),
-        sends: false,
-        outgoing: outgoing::silent(),
-        table,
-    }
-}
-
-// Done at this slot, with nothing to send.
-pub(crate) fn done_quietly(slot: Slot, table: TransactionTable) -> RegistrarAnswer
-    ensures { result ≡ done_quietly slot.0 table.transactions }
-{
-    RegistrarAnswer {
-        outcome: Outcome::Done,
-        fault: no_fault(),
-        slot,
-        sends: false,
-        outgoing: outgoing::silent(),
-        table,
-    }
-}
-
-// Done at this slot, with this to send.
-pub(crate) fn done_sending(
-    slot: Slot,
-    table: TransactionTable,
-    outgoing: Outgoing,
-) -> RegistrarAnswer
-    ensures { result ≡ done_sending slot.0 table.transactions outgoing }
-{
-    RegistrarAnswer {
-        outcome: Outcome::Done,
-        fault: no_fault(),
-        slot,
-        sends: true,
-        outgoing,
-        table,
-    }
-}
-
-// "again": the same acknowledgement, and no change.
-pub(crate) fn again(slot: Slot, table: TransactionTable, outgoing: Outgoing) -> RegistrarAnswer
-    ensures { result ≡ repeated slot.0 table outgoing }
-{
-    RegistrarAnswer {
-        outcome: Outcome::Again,
-        fault: no_fault(),
-        slot,
-        sends: true,
-        outgoing,
-        table,
-    }
+    refused
 }

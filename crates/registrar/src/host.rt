@@ -1,10 +1,11 @@
 // The host's steps: issue, refuse, lapse and close. Each names its transaction by the id.
 ghost use Rattle.std.specs.Prelude.{◌≡◌, set};
+ghost use Rattle.protocol.specs.Table.{slot_of};
 ghost use Rattle.protocol.specs.Registrar.{settled, responded, done_quietly, registrar_issue, registrar_refuse, registrar_lapse, registrar_close};
-ghost use Rattle.registrar.specs.Steps.{response_answer};
+ghost use Rattle.registrar.specs.Steps.{response_answer, StepsBy};
 
 use crate::answers::{done_quietly, done_sending, refused_quietly};
-use crate::slots::{find, transaction_at, with_at};
+use crate::slots::{find, with_at};
 use crate::states::{may_close, may_issue, may_lapse, may_refuse};
 use protocol::{
     FreshNonce, Hash, Nonce, RegistrarAnswer, Slot, Transaction, TransactionId, TransactionState,
@@ -15,18 +16,10 @@ use protocol::{
 pub(crate) fn settled(held: Transaction, state: TransactionState, taken: Nonce) -> Transaction
     ensures { result ≡ settled held state taken }
 {
-    let id = held.id;
-    let board = held.board;
-    let sent = held.sent;
-    let hash = held.hash;
     Transaction {
-        id,
-        board,
-        kind: held.kind,
         taken,
-        sent,
-        hash,
         state,
+        ..held
     }
 }
 
@@ -34,17 +27,11 @@ pub(crate) fn settled(held: Transaction, state: TransactionState, taken: Nonce) 
 fn responded(held: Transaction, state: TransactionState, sent: Nonce, hash: Hash) -> Transaction
     ensures { result ≡ responded held state sent hash }
 {
-    let id = held.id;
-    let board = held.board;
-    let taken = held.taken;
     Transaction {
-        id,
-        board,
-        kind: held.kind,
-        taken,
         sent,
         hash,
         state,
+        ..held
     }
 }
 
@@ -76,6 +63,26 @@ fn changed(table: TransactionTable, slot: Slot, x: Transaction) -> RegistrarAnsw
     done_quietly(slot, with_at(table, slot, x))
 }
 
+// A host's step: refused where the table has no such id (30), and where the transaction's state does not allow it (31).
+fn host_step<M: Fn(Transaction) -> bool, A: FnOnce(Slot, Transaction) -> RegistrarAnswer>(
+    table: TransactionTable,
+    id: TransactionId,
+    may: M,
+    act: A,
+) -> RegistrarAnswer
+    requires testable { M.IsAlwaysCallable may }
+    requires callable { A.IsAlwaysCallable act }
+    ensures { StepsBy (M.post may) (A.post act (record { 0 = slot_of table.transactions id })) table id result }
+{
+    let Some((slot, held)) = find(table, id) else {
+        return refused_quietly(30, table);
+    };
+    if !may(held) {
+        return refused_quietly(31, table);
+    }
+    act(slot, held)
+}
+
 // Asked to Granted: the certificate with this hash is sent.
 pub fn issue(
     table: TransactionTable,
@@ -85,80 +92,37 @@ pub fn issue(
 ) -> RegistrarAnswer
     ensures { result ≡ registrar_issue table id nonce hash }
 {
-    let slot = find(table, id);
-    if slot < TransactionTable::CAPACITY {
-        let held = transaction_at(table, Slot(slot));
-        if may_issue(held) {
-            return respond(
-                table,
-                Slot(slot),
-                held,
-                id,
-                TransactionState::Granted,
-                0,
-                nonce,
-                hash,
-            );
-        }
-        return refused_quietly(31, table);
-    }
-    refused_quietly(30, table)
+    host_step(table, id, may_issue, |slot, held| {
+        let granted = TransactionState::Granted;
+        respond(table, slot, held, id, granted, 0, nonce, hash)
+    })
 }
 
 // Asked to Refused: the request is rejected.
 pub fn refuse(table: TransactionTable, id: TransactionId, nonce: FreshNonce) -> RegistrarAnswer
     ensures { result ≡ registrar_refuse table id nonce }
 {
-    let slot = find(table, id);
-    if slot < TransactionTable::CAPACITY {
-        let held = transaction_at(table, Slot(slot));
-        if may_refuse(held) {
-            return respond(
-                table,
-                Slot(slot),
-                held,
-                id,
-                TransactionState::Refused,
-                2,
-                nonce,
-                held.hash,
-            );
-        }
-        return refused_quietly(31, table);
-    }
-    refused_quietly(30, table)
+    host_step(table, id, may_refuse, |slot, held| {
+        let refused = TransactionState::Refused;
+        respond(table, slot, held, id, refused, 2, nonce, held.hash)
+    })
 }
 
 // Granted to Lapsed: no confirmation came.
 pub fn lapse(table: TransactionTable, id: TransactionId) -> RegistrarAnswer
     ensures { result ≡ registrar_lapse table id }
 {
-    let slot = find(table, id);
-    if slot < TransactionTable::CAPACITY {
-        let held = transaction_at(table, Slot(slot));
-        if may_lapse(held) {
-            return changed(
-                table,
-                Slot(slot),
-                settled(held, TransactionState::Lapsed, held.taken),
-            );
-        }
-        return refused_quietly(31, table);
-    }
-    refused_quietly(30, table)
+    host_step(table, id, may_lapse, |slot, held| {
+        let lapsed = settled(held, TransactionState::Lapsed, held.taken);
+        changed(table, slot, lapsed)
+    })
 }
 
 // Confirmed, Declined, Refused or Lapsed to free.
 pub fn close(table: TransactionTable, id: TransactionId) -> RegistrarAnswer
     ensures { result ≡ registrar_close table id }
 {
-    let slot = find(table, id);
-    if slot < TransactionTable::CAPACITY {
-        let held = transaction_at(table, Slot(slot));
-        if may_close(held) {
-            return changed(table, Slot(slot), Transaction::free());
-        }
-        return refused_quietly(31, table);
-    }
-    refused_quietly(30, table)
+    host_step(table, id, may_close, |slot, _| {
+        changed(table, slot, Transaction::free())
+    })
 }

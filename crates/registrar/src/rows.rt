@@ -1,19 +1,20 @@
-// The rows 8 to 20 of 01's table at the registrar, in its order: the number of the lowest that applies, 0 where none does.
-ghost use Rattle.std.specs.Prelude.{◌≡◌, true, false, not, cond, ◌&&◌, ◌||◌, eqb};
+// The rows 8 to 20 of 01's table at the registrar, in its order: the number of the lowest that applies.
+ghost use Rattle.std.specs.Prelude.{◌≡◌, not, cond, ◌&&◌, ◌||◌, eqb};
+ghost use Rattle.std.proofs.Math.Option.{get_or};
 ghost use Rattle.protocol.specs.Bytes.{is_nonce, same_bytes};
 ghost use Rattle.grammar.specs.Span.{part_of};
 ghost use Rattle.protocol.specs.Message.{is_opening_kind, request_number, is_present, optional_part, fields_of};
-ghost use Rattle.protocol.specs.Table.{has_free_slot};
+ghost use Rattle.protocol.specs.Table.{has_free_slot, free_transaction};
 ghost use Rattle.protocol.specs.States.{has_sent, has_hash, is_granted, settled_by};
 ghost use Rattle.protocol.specs.Refusals.{lowest_row};
 ghost use Rattle.protocol.specs.RegistrarRows.{is_good, names, transaction_rows, entry_rows, later_rows};
-ghost use Rattle.incoming.specs.Incoming.{number_of, chain};
+ghost use Rattle.incoming.specs.Incoming.{number_of};
 ghost use Rattle.registrar.specs.Steps.{found_by};
 
-use crate::slots::free_slot;
+use crate::slots::{Found, free_slot, held_or_free};
 use crate::states::{has_hash, has_sent, is_granted, settled_by};
 use grammar::{Message, Span};
-use incoming::rows::{or_row, status_or_0};
+use incoming::rows::{first_row, status_or_0};
 use parts::{is_hash, is_nonce, is_present};
 use protocol::kinds::{CERT_CONF, is_opening_kind, request_number};
 use protocol::{Board, Transaction, TransactionTable, Verdict};
@@ -22,123 +23,77 @@ use protocol::{Board, Transaction, TransactionTable, Verdict};
 pub(crate) fn is_good(verdict: Verdict) -> bool
     ensures { result ≡ is_good verdict }
 {
-    match verdict {
-        Some(_) => true,
-        None => false,
-    }
+    verdict.is_some()
 }
 
 // Of a request (01's opening).
 fn of_request(kind: u8, opening: bool) -> bool
     ensures { result ≡ (is_opening_kind kind && opening) }
 {
-    if is_opening_kind(kind) {
-        return opening;
-    }
-    false
+    is_opening_kind(kind) && opening
 }
 
 // Of a certConf.
 fn of_cert_conf(kind: u8, confirming: bool) -> bool
     ensures { result ≡ (eqb kind 24 && confirming) }
 {
-    if kind == CERT_CONF {
-        return confirming;
-    }
-    false
+    kind == CERT_CONF && confirming
 }
 
 // Of the one entry of a certConf.
 fn of_one(kind: u8, entries: usize, applies: bool) -> bool
     ensures { result ≡ (eqb kind 24 && eqb entries 1 && applies) }
 {
-    if kind == CERT_CONF {
-        if entries == 1 {
-            return applies;
-        }
-    }
-    false
+    kind == CERT_CONF && entries == 1 && applies
 }
 
 // 8: neither a request nor a certConf.
 fn other_kind(kind: u8) -> bool
     ensures { result ≡ not (is_opening_kind kind || eqb kind 24) }
 {
-    if is_opening_kind(kind) {
-        return false;
-    }
-    kind != CERT_CONF
+    !is_opening_kind(kind) && kind != CERT_CONF
 }
 
 // 11: no slot is free.
-#[tactic(auto, using(crate::proofs::SlotLaws::room))]
 fn full(table: TransactionTable) -> bool
     ensures { result ≡ not (has_free_slot table.transactions) }
 {
-    if free_slot(table) < TransactionTable::CAPACITY {
-        return false;
-    }
-    true
+    free_slot(table).is_none()
 }
 
 // 11, of a request: a certConf needs no slot.
 fn opens_full(kind: u8, table: TransactionTable) -> bool
     ensures { result ≡ (is_opening_kind kind && not (has_free_slot table.transactions)) }
 {
-    let opens = is_opening_kind(kind);
-    if opens {
-        return full(table);
-    }
-    false
+    is_opening_kind(kind) && full(table)
 }
 
 // 13: the verdict does not name this board.
 fn for_another(verdict: Verdict, board: Board) -> bool
     ensures { result ≡ not (names verdict board) }
 {
-    match verdict {
-        Some(b) => b.0 != board.0,
-        None => true,
-    }
+    verdict.is_none_or(|named| named.0 != board.0)
 }
 
 // 14: it does not answer the response that the transaction sent.
 fn other_nonce(message: &[u8], span: Span, held: Transaction) -> bool
     ensures { result ≡ not (has_sent held.state && is_nonce (optional_part message.now span) held.sent) }
 {
-    let state = held.state;
-    if has_sent(state) {
-        if is_nonce(message, span, held.sent) {
-            return false;
-        }
-    }
-    true
+    !(has_sent(held.state) && is_nonce(message, span, held.sent))
 }
 
 // The kinds whose entries are counted.
 fn has_entries(kind: u8) -> bool
     ensures { result ≡ (eqb kind 0 || eqb kind 2 || eqb kind 7 || eqb kind 24) }
 {
-    if kind == 0 {
-        return true;
-    }
-    if kind == 2 {
-        return true;
-    }
-    if kind == 7 {
-        return true;
-    }
-    kind == CERT_CONF
+    matches!(kind, 0 | 2 | 7 | CERT_CONF)
 }
 
 // 15: not exactly one entry.
 fn not_one(kind: u8, entries: usize) -> bool
     ensures { result ≡ ((eqb kind 0 || eqb kind 2 || eqb kind 7 || eqb kind 24) && not (eqb entries 1)) }
 {
-    if has_entries(kind) {
-        return entries != 1;
-    }
-    false
+    has_entries(kind) && entries != 1
 }
 
 // The kind of the transaction that the message is about: a certConf's is held, a request's is its own.
@@ -152,139 +107,103 @@ fn kind_of(kind: u8, held: u8) -> u8
 fn other_request(kind: u8, entries: usize, number: u32, held: u8) -> bool
     ensures { result ≡ ((eqb kind 0 || eqb kind 2 || eqb kind 7 || eqb kind 24) && eqb entries 1 && not (eqb number (request_number (cond (eqb kind 24) held kind)))) }
 {
-    if has_entries(kind) {
-        if entries == 1 {
-            return number != request_number(kind_of(kind, held));
-        }
-    }
-    false
+    has_entries(kind) && entries == 1 && number != request_number(kind_of(kind, held))
 }
 
 // 17: a hashAlg with pvno 2.
 fn early_hash_alg(kind: u8, entries: usize, alg: Span, version: u32) -> bool
     ensures { result ≡ (eqb kind 24 && eqb entries 1 && is_present alg && eqb version 2) }
 {
-    if of_one(kind, entries, is_present(alg)) {
-        return version == 2;
-    }
-    false
+    of_one(kind, entries, is_present(alg)) && version == 2
 }
 
 // 18: neither 0 nor 2.
 fn other_status(status: u32) -> bool
     ensures { result ≡ not (eqb status 0 || eqb status 2) }
 {
-    if status == 0 {
-        return false;
-    }
-    if status == 2 {
-        return false;
-    }
-    true
+    !matches!(status, 0 | 2)
 }
 
 // 19: not the transaction's hash, or none is set.
 fn other_hash(message: &[u8], span: Span, held: Transaction) -> bool
     ensures { result ≡ not (has_hash held && same_bytes (part_of message.now span) held.hash.bytes) }
 {
-    if has_hash(held) {
-        if is_hash(message, span, held.hash) {
-            return false;
-        }
-    }
-    true
+    !(has_hash(held) && is_hash(message, span, held.hash))
 }
 
 // 20: not Granted, and not the confirmation that led to this state.
 fn not_taken(message: &[u8], span: Span, held: Transaction, status: u32) -> bool
     ensures { result ≡ not (is_granted held.state || settled_by held.state status && is_nonce (optional_part message.now span) held.taken) }
 {
-    let state = held.state;
-    if is_granted(state) {
-        return false;
-    }
-    if settled_by(state, status) {
-        if is_nonce(message, span, held.taken) {
-            return false;
-        }
-    }
-    true
+    let again = settled_by(held.state, status) && is_nonce(message, span, held.taken);
+    !(is_granted(held.state) || again)
 }
 
-// 8 to 14. `held` is the transaction with the message's id where `known` says that there is one.
+// 8 to 14.
+#[tactic(auto, unfolding(protocol::specs::Message::fields_of), using(crate::proofs::RowLaws::known_is, crate::proofs::RowLaws::present_is))]
 fn transaction_refusal(
     table: TransactionTable,
     message: &[u8],
     m: Message,
-    known: bool,
-    held: Transaction,
+    found: Found,
     verdict: Verdict,
-) -> u8
-    ensures { result ≡ chain 0 (transaction_rows table.transactions (found_by known held) verdict held (fields_of message.now m)) }
+) -> Option<u8>
+    ensures { result ≡ number_of (lowest_row (transaction_rows table.transactions (found_by found) verdict (get_or (found_by found) free_transaction) (fields_of message.now m))) }
 {
-    let header = m.header;
-    let body = m.body;
-    let kind = body.kind;
-    let nonce = header.recip_nonce;
-    let number = or_row(0, 8, other_kind(kind));
-    let number = or_row(number, 9, of_request(kind, is_present(nonce)));
-    let number = or_row(number, 10, of_request(kind, known));
-    let number = or_row(number, 11, opens_full(kind, table));
-    let number = or_row(number, 12, of_cert_conf(kind, !known));
-    let number = or_row(
-        number,
-        13,
-        of_cert_conf(kind, for_another(verdict, held.board)),
-    );
-    or_row(
-        number,
-        14,
-        of_cert_conf(kind, other_nonce(message, nonce, held)),
-    )
+    let held = held_or_free(found);
+    let kind = m.body.kind;
+    let nonce = m.header.recip_nonce;
+    first_row(&[
+        (8, other_kind(kind)),
+        (9, of_request(kind, is_present(nonce))),
+        (10, of_request(kind, found.is_some())),
+        (11, opens_full(kind, table)),
+        (12, of_cert_conf(kind, found.is_none())),
+        (13, of_cert_conf(kind, for_another(verdict, held.board))),
+        (14, of_cert_conf(kind, other_nonce(message, nonce, held))),
+    ])
 }
 
-// 15 to 20, after the number so far.
-fn entry_refusal(so_far: u8, message: &[u8], m: Message, held: Transaction) -> u8
-    ensures { result ≡ chain so_far (entry_rows held (fields_of message.now m)) }
+// 15 to 20.
+#[tactic(auto, unfolding(protocol::specs::Message::fields_of))]
+fn entry_refusal(message: &[u8], m: Message, held: Transaction) -> Option<u8>
+    ensures { result ≡ number_of (lowest_row (entry_rows held (fields_of message.now m))) }
 {
-    let header = m.header;
-    let body = m.body;
-    let entry = body.entry;
-    let kind = body.kind;
-    let n = body.entries;
-    let nonce = header.sender_nonce;
+    let kind = m.body.kind;
+    let n = m.body.entries;
+    let entry = m.body.entry;
     let status = status_or_0(entry);
-    let number = or_row(so_far, 15, not_one(kind, n));
-    let number = or_row(number, 16, other_request(kind, n, entry.number, held.kind));
-    let number = or_row(
-        number,
-        17,
-        early_hash_alg(kind, n, entry.hash_alg, header.version),
-    );
-    let number = or_row(number, 18, of_one(kind, n, other_status(status)));
-    let number = or_row(
-        number,
-        19,
-        of_one(kind, n, other_hash(message, entry.cert_hash, held)),
-    );
-    or_row(
-        number,
-        20,
-        of_cert_conf(kind, not_taken(message, nonce, held, status)),
-    )
+    let version = m.header.version;
+    let nonce = m.header.sender_nonce;
+    first_row(&[
+        (15, not_one(kind, n)),
+        (16, other_request(kind, n, entry.number, held.kind)),
+        (17, early_hash_alg(kind, n, entry.hash_alg, version)),
+        (18, of_one(kind, n, other_status(status))),
+        (
+            19,
+            of_one(kind, n, other_hash(message, entry.cert_hash, held)),
+        ),
+        (
+            20,
+            of_cert_conf(kind, not_taken(message, nonce, held, status)),
+        ),
+    ])
 }
 
-// 8 to 20.
+// 8 to 20. `found` is the transaction with the message's id.
 pub(crate) fn later_refusal(
     table: TransactionTable,
     message: &[u8],
     m: Message,
-    known: bool,
-    held: Transaction,
+    found: Found,
     verdict: Verdict,
-) -> u8
-    ensures { result ≡ number_of (lowest_row (later_rows table.transactions (found_by known held) verdict held (fields_of message.now m))) }
+) -> Option<u8>
+    ensures { result ≡ number_of (lowest_row (later_rows table.transactions (found_by found) verdict (get_or (found_by found) free_transaction) (fields_of message.now m))) }
 {
-    let number = transaction_refusal(table, message, m, known, held, verdict);
-    entry_refusal(number, message, m, held)
+    transaction_refusal(table, message, m, found, verdict).or_else(|| entry_refusal(
+        message,
+        m,
+        held_or_free(found),
+    ))
 }

@@ -11,10 +11,10 @@ use crate::answers::{
 };
 use crate::host::settled;
 use crate::rows::{is_good, later_refusal};
-use crate::slots::{find, free_slot, transaction_at, with_at};
+use crate::slots::{Found, find, free_slot, held_or_free, with_at};
 use crate::states::{is_confirmed, is_granted, settled_state};
 use grammar::Message;
-use incoming::rows::{fault_of, head_refusal, status_or_0};
+use incoming::rows::{head_refusal, status_or_0};
 use message::read;
 use parts::{id_of, nonce_of};
 use protocol::kinds::{CERT_CONF, is_opening_kind};
@@ -26,10 +26,7 @@ use protocol::{
 fn board_named(verdict: Verdict) -> Board
     ensures { result ≡ board_named verdict }
 {
-    match verdict {
-        Some(board) => board,
-        None => Board(0),
-    }
+    verdict.unwrap_or(Board(0))
 }
 
 // The transaction that a request opens.
@@ -57,9 +54,12 @@ fn open(
 ) -> RegistrarAnswer
     ensures { result ≡ done_quietly (free_slot table.transactions) (put table.transactions (asked_transaction id board kind taken)) }
 {
-    let slot = free_slot(table);
-    let next = with_at(table, Slot(slot), asked(id, board, kind, taken));
-    done_quietly(Slot(slot), next)
+    // Where no slot is free, none comes here (11).
+    let Some(slot) = free_slot(table) else {
+        return done_quietly(Slot(TransactionTable::CAPACITY), table);
+    };
+    let next = with_at(table, slot, asked(id, board, kind, taken));
+    done_quietly(slot, next)
 }
 
 // A confirmation that is not refused: it moves the transaction at Granted, else it is the same once more.
@@ -75,37 +75,33 @@ fn confirm(
     ensures { result ≡ confirmation table slot.0 held fresh id answered status }
 {
     let outgoing = outgoing::pki_conf(id, fresh, answered);
-    let state = held.state;
-    if is_granted(state) {
+    if is_granted(held.state) {
         let next = settled(held, settled_state(status), answered);
         return done_sending(slot, with_at(table, slot, next), outgoing);
     }
     again(slot, table, outgoing)
 }
 
-// A message that no row refuses, by its kind: `held` is the transaction in the slot. No certConf without a transaction (12)
-// and no other kind (8) comes here.
+// A message that no row refuses, by its kind. No certConf without a transaction (12) and no other kind (8) comes here.
 fn taken(
     table: TransactionTable,
-    slot: Slot,
-    held: Transaction,
+    found: Found,
     kind: u8,
     status: u32,
     input: RegistrarInput,
     id: TransactionId,
     answered: Nonce,
 ) -> RegistrarAnswer
-    ensures { result ≡ taken_at table slot.0 held kind status input id answered }
+    ensures { result ≡ taken_at table found kind status input id answered }
 {
-    let verdict = input.verdict;
     if is_opening_kind(kind) {
-        return open(table, id, board_named(verdict), kind, answered);
+        return open(table, id, board_named(input.verdict), kind, answered);
     }
     if kind == CERT_CONF {
-        if slot.0 < TransactionTable::CAPACITY {
-            return confirm(table, slot, held, input.nonce, id, answered, status);
-        }
-        return refused_quietly(12, table);
+        let Some((slot, held)) = found else {
+            return refused_quietly(12, table);
+        };
+        return confirm(table, slot, held, input.nonce, id, answered, status);
     }
     refused_quietly(8, table)
 }
@@ -122,40 +118,22 @@ fn headed(
     requires { Copied bytes.now m id answered }
     ensures { result ≡ Steps·headed table input id (fields_of bytes.now m) }
 {
-    let body = m.body;
-    let verdict = input.verdict;
-    let fresh = input.nonce;
-    let slot = find(table, id);
-    let held = transaction_at(table, Slot(slot));
-    let known = slot < TransactionTable::CAPACITY;
-    let number = later_refusal(table, bytes, m, known, held, verdict);
-    if number != 0 {
-        let state = held.state;
-        return refused_message(number, is_confirmed(state), table, fresh, id, answered);
+    let found = find(table, id);
+    if let Some(number) = later_refusal(table, bytes, m, found, input.verdict) {
+        let confirmed = is_confirmed(held_or_free(found).state);
+        return refused_message(number, confirmed, table, input.nonce, id, answered);
     }
-    let status = status_or_0(body.entry);
-    taken(
-        table,
-        Slot(slot),
-        held,
-        body.kind,
-        status,
-        input,
-        id,
-        answered,
-    )
+    let status = status_or_0(m.body.entry);
+    taken(table, found, m.body.kind, status, input, id, answered)
 }
 
 // A message that reads.
 fn step(table: TransactionTable, bytes: &[u8], m: Message, input: RegistrarInput) -> RegistrarAnswer
     ensures { result ≡ registrar_fields table input (fields_of bytes.now m) }
 {
-    let header = m.header;
-    let verdict = input.verdict;
-    let id = id_of(bytes, header.transaction_id);
-    let answered = nonce_of(bytes, header.sender_nonce);
-    let number = head_refusal(bytes, m, is_good(verdict));
-    if number != 0 {
+    let id = id_of(bytes, m.header.transaction_id);
+    let answered = nonce_of(bytes, m.header.sender_nonce);
+    if let Some(number) = head_refusal(bytes, m, is_good(input.verdict)) {
         return refused_message(number, false, table, input.nonce, id, answered);
     }
     headed(table, bytes, m, input, id, answered)
@@ -165,9 +143,8 @@ fn step(table: TransactionTable, bytes: &[u8], m: Message, input: RegistrarInput
 pub fn message(table: TransactionTable, bytes: &[u8], input: RegistrarInput) -> RegistrarAnswer
     ensures { result ≡ registrar_message table input bytes.now }
 {
-    let reading = read(bytes);
-    let Ok(m) = reading else {
-        return refused_reading(fault_of(reading), table);
-    };
-    step(table, bytes, m, input)
+    match read(bytes) {
+        Ok(m) => step(table, bytes, m, input),
+        Err(fault) => refused_reading(fault, table),
+    }
 }

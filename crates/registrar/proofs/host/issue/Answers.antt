@@ -1,35 +1,17 @@
--- By the slot of the id, and the state there.
-use mathlib.Core.Path.{◌∙◌}
-use Rattle.protocol.specs.Registrar.{registrar_issue}
-use Rattle.registrar.proofs.HostLaws.{sending, no_slot, not_allowed, allowed}
+-- What is done at the slot is done for the id.
+use Rattle.std.proofs.Common.{rules, ◌≡◌, ◌∙◌}
+use Rattle.protocol.specs.Table.{slot_of}
+use Rattle.protocol.specs.States.{may_issue}
+use Rattle.protocol.specs.Registrar.{registrar_issue, respond}
+use Rattle.protocol.specs.declared.TransactionState.TheVariants.{Granted}
+use Rattle.registrar.specs.Steps.{response_answer}
+use Rattle.registrar.proofs.HostLaws.{sending}
 use Rattle.registrar.proofs.host.issue.Goals as goal
-
-pub returns-then-may_issue : goal.returns-then-may_issue
-unfolding registrar_issue
-returns-then-may_issue c =
-    let tested = c in
-    let held = tested in
-    let found = held in
-    let args = found.args in
-    c.respond.ensures
-    ∙ sending args.table args.id found.find-slot.ensures held.transaction_at-held.result _ _ _ _
-    ∙ allowed args.table args.id found.find-slot.ensures _ _
-    held.transaction_at-held.ensures held.if-slot-lt-CAPACITY.true tested.may_issue.ensures c.if-may_issue.true
-
-pub returns-then-slot-lt-CAPACITY : goal.returns-then-slot-lt-CAPACITY
-unfolding registrar_issue
-returns-then-slot-lt-CAPACITY c =
-    let tested = c in
-    let held = tested in
-    let found = held in
-    let args = found.args in
-    c.refused_quietly.ensures
-    ∙ not_allowed args.table args.id found.find-slot.ensures _ _
-    held.transaction_at-held.ensures held.if-slot-lt-CAPACITY.true tested.may_issue.ensures c.if-may_issue.false
 
 pub returns : goal.returns
 unfolding registrar_issue
 returns c =
-    let found = c in
-    let args = found.args in
-    c.refused_quietly-2.ensures ∙ no_slot args.table args.id found.find-slot.ensures _ _ c.if-slot-lt-CAPACITY.false
+    let t = c.args.table in
+    let i = c.args.id in
+    let p = slot_of t.transactions i in
+    c.host_step.ensures may_issue (λ r. respond t i r Granted 0 c.args.nonce c.args.hash) (λ x b e. e.1) (λ x a e. let h : a ≡ response_answer t p x i Granted 0 c.args.nonce c.args.hash = search rules in h ∙ sending t i x Granted 0 c.args.nonce c.args.hash)

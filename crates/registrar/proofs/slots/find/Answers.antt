@@ -1,19 +1,18 @@
-use Rattle.std.proofs.Common.{◌≡◌, length, ◌<◌, ◌≤◌, arith, sym, ◌∙◌}
-use Rattle.registrar.proofs.SlotLaws.{slot_here, slot_further, slot-end}
+use Rattle.std.proofs.Common.{rules, tests, ◌∙◌}
+use Rattle.std.proofs.lemmas.Iterator.{YieldsList-from_slice}
+use Rattle.std.proofs.lemmas.Iterator.Search.{position_from_yields_List}
+use Rattle.protocol.specs.Table.{is_for}
+use Rattle.registrar.proofs.SlotLaws.{finds}
 use Rattle.registrar.proofs.slots.find.Goals as goal
 
-pub returns-then-is_for : goal.returns-then-is_for
-returns-then-is_for c =
-    let inside : c.loop-i.i < length c.args.table.transactions = omega arith in
-    let is : c.loop-i.i ≡ _ = slot_here c.args.table.transactions c.args.id c.loop-i.i c.loop-i.invariant.1 _ inside (sym c.is_for.ensures ∙ c.if-is_for.true) in
-    (is, omega arith)
-
-pub loop-i-preserved : goal.loop-i-preserved
-loop-i-preserved c =
-    let inside : c.loop-i.i < length c.args.table.transactions = omega arith in
-    (omega arith, slot_further c.args.table.transactions c.args.id c.loop-i.i c.loop-i.invariant.1 _ inside (sym c.is_for.ensures ∙ c.if-is_for.false))
+pub returns-in_err-place : goal.returns-in_err-place
+returns-in_err-place c =
+    let rs = c.args.table.transactions in
+    let at = position_from_yields_List (is_for c.args.id) _ _ c.position.result c.position.ensures.ran (YieldsList-from_slice rs cc) (λ x b q k. search (rules, tests)) in
+    c.from_residual.ensures ∙ (finds rs c.args.id c.position.result at).0 c.in_err-place.was
 
 pub returns : goal.returns
 returns c =
-    let past : length c.args.table.transactions ≤ c.loop-i.i = omega arith in
-    (omega (arith, slot-end c.args.table.transactions c.args.id c.loop-i.i c.loop-i.invariant.1 past), omega arith)
+    let rs = c.args.table.transactions in
+    let at = position_from_yields_List (is_for c.args.id) _ _ c.position.result c.position.ensures.ran (YieldsList-from_slice rs cc) (λ x b q k. search (rules, tests)) in
+    (finds rs c.args.id c.position.result at).1 c.in_ok-place.place _ c.in_ok-place.was

@@ -1,19 +1,19 @@
-use Rattle.std.proofs.Common.{◌≡◌, length, ◌<◌, ◌≤◌, arith, sym, ◌∙◌}
-use Rattle.registrar.proofs.SlotLaws.{free_here, free_further, free-end}
+use Rattle.std.proofs.Common.{rules, tests, ◌∙◌}
+use Rattle.std.proofs.lemmas.Iterator.{YieldsList-from_slice}
+use Rattle.std.proofs.lemmas.Iterator.Search.{position_from_yields_List}
+use Rattle.protocol.specs.declared.Transaction.{Transaction}
+use Rattle.protocol.specs.Table.{is_free}
+use Rattle.registrar.proofs.SlotLaws.{frees}
 use Rattle.registrar.proofs.slots.free_slot.Goals as goal
 
-pub returns-then-is_free_slot : goal.returns-then-is_free_slot
-returns-then-is_free_slot c =
-    let inside : c.loop-i.i < length c.args.table.transactions = omega arith in
-    let is : c.loop-i.i ≡ _ = free_here c.args.table.transactions c.loop-i.i c.loop-i.invariant.1 _ inside (sym c.is_free_slot.ensures ∙ c.if-is_free_slot.true) in
-    (is, omega arith)
+pub returns-in_err-place-clause-slot : goal.returns-in_err-place-clause-slot
+returns-in_err-place-clause-slot c =
+    let rs = c.args.table.transactions in
+    let at = position_from_yields_List (λ (t : Transaction). is_free t.state) _ _ c.position.result c.position.ensures.ran (YieldsList-from_slice rs cc) (λ x b q k. search (rules, tests)) in
+    c.from_residual.ensures ∙ (frees rs c.position.result at).0 c.in_err-place.was
 
-pub loop-i-preserved : goal.loop-i-preserved
-loop-i-preserved c =
-    let inside : c.loop-i.i < length c.args.table.transactions = omega arith in
-    (omega arith, free_further c.args.table.transactions c.loop-i.i c.loop-i.invariant.1 _ inside (sym c.is_free_slot.ensures ∙ c.if-is_free_slot.false))
-
-pub returns : goal.returns
-returns c =
-    let past : length c.args.table.transactions ≤ c.loop-i.i = omega arith in
-    (omega (arith, free-end c.args.table.transactions c.loop-i.i c.loop-i.invariant.1 past), omega arith)
+pub returns-clause-slot : goal.returns-clause-slot
+returns-clause-slot c =
+    let rs = c.args.table.transactions in
+    let at = position_from_yields_List (λ (t : Transaction). is_free t.state) _ _ c.position.result c.position.ensures.ran (YieldsList-from_slice rs cc) (λ x b q k. search (rules, tests)) in
+    (frees rs c.position.result at).1 c.in_ok-place.place c.in_ok-place.was
