@@ -15,7 +15,7 @@ use given::numbers::GIVEN;
 use message::MAX_MESSAGE;
 use packed::answer::{END_ENTITY_ANSWER_BYTES, REGISTRAR_ANSWER_BYTES};
 use packed::enrolment::ENROLMENT_BYTES;
-use packed::outgoing::OUTGOING_BYTES;
+use packed::sent::OUTGOING_BYTES;
 use packed::table::TABLE_BYTES;
 
 // Whether all of `bytes` is whole DER elements, at most 16 deep. 0: yes; else the first fault's offset times 8 plus its rule;

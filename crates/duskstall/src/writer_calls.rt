@@ -3,7 +3,7 @@ ghost use Rattle.std.specs.Prelude.{◌≡◌};
 ghost use Rattle.duskstall.specs.Write.{not_written, written_number, write_number, write_buffer};
 
 use given::numbers::{GIVEN, spans_of};
-use packed::outgoing::unpack_outgoing;
+use packed::sent::unpack_outgoing;
 use writer::{Written, write};
 
 // In the high 32 bits.

@@ -24,12 +24,12 @@ use Rattle.protocol.proofs.Tests.{cases}
 use Rattle.protocol.proofs.EndEntityPasses.{answered_by}
 use Rattle.packed.specs.Enrolment.{EnrolmentSized}
 use Rattle.packed.specs.Outgoing.{OutgoingSized}
-use Rattle.packed.specs.Answer.{OutcomeBack}
+use Rattle.packed.specs.Answer.{sent_or_silent, OutcomeBack}
 use Rattle.lent.proofs.Sizes.{bit-back, silent_sized, Late, late, sixteen}
 
 pub record EndEntitySized (a : EndEntityAnswer) : Type 0 where
   pub enrolment : EnrolmentSized a.enrolment
-  pub outgoing : OutgoingSized a.outgoing
+  pub outgoing : OutgoingSized (sent_or_silent a.outgoing)
   pub outcome : OutcomeBack a.outcome
 
 pub start_sized : (k : ℕ) (i : TransactionId) (n : FreshNonce) → length i.bytes ≡ 16 → length n.bytes ≡ 16 → EndEntitySized (end_entity_start k i n)

@@ -28,12 +28,12 @@ use Rattle.protocol.proofs.Tests.{cases}
 use Rattle.protocol.proofs.RegistrarPasses.{taken_by}
 use Rattle.packed.specs.Table.{TransactionSized, TableSized}
 use Rattle.packed.specs.Outgoing.{OutgoingSized}
-use Rattle.packed.specs.Answer.{OutcomeBack}
+use Rattle.packed.specs.Answer.{sent_or_silent, OutcomeBack}
 use Rattle.lent.proofs.Sizes.{bit-back, silent_sized, Late, late, sixteen, lookup_sized, replace_sized, put_sized, free_sized, slot_bound, free_bound}
 
 pub record RegistrarSized (a : RegistrarAnswer) : Type 0 where
   pub table : TableSized a.table
-  pub outgoing : OutgoingSized a.outgoing
+  pub outgoing : OutgoingSized (sent_or_silent a.outgoing)
   pub outcome : OutcomeBack a.outcome
   pub slot : a.slot.0 < 255
 

@@ -2,8 +2,8 @@
 use Rattle.std.specs.Prelude.{Ok, Err}
 use Prim.Native.Nat.{ℕ, ◌-◌}
 use mathlib.Core.List.{List, [], ◌∷◌}
-use mathlib.Core.Bool.{Bool, true, false}
-use mathlib.Core.Option.{some}
+use mathlib.Core.Bool.{Bool, true, false, cond}
+use mathlib.Core.Option.{none, some}
 use mathlib.Core.Path.{◌≡◌, refl, sym, ◌∙◌, ap, subst}
 use mathlib.Core.Logic.{inl, inr}
 use borrow.Author.Tests.{eqb-true, eq-eqb}
@@ -12,7 +12,7 @@ use lib.Dec.{eqb}
 use Rattle.grammar.specs.declared.Message.{Message}
 use Rattle.message.specs.Types.{Reading}
 use Rattle.protocol.specs.declared.Outgoing.{Outgoing}
-use Rattle.protocol.specs.Run.{End, Event, sent_by}
+use Rattle.protocol.specs.Run.{End, Event}
 use Rattle.protocol.specs.Agreement.{SomeEvent, Gave, Issued, Carries, IssuedReading}
 use Rattle.protocol.proofs.Tests.{none_some, some_some, cases}
 use Rattle.packed.specs.Places.{flag_bytes}
@@ -23,13 +23,13 @@ use Rattle.lent.specs.Header.{SomeMade, Sent, CarriesBytes, IssuedBytes}
 
 -- ## What was sent
 
-sent_is : (c : LentCall) (x : List ℕ) → sent_of c x ≡ sent_by (eqb (get_or x (outgoing_place c - flag_bytes) 0) 1) (outgoing_of (drop (outgoing_place c) x))
+sent_is : (c : LentCall) (x : List ℕ) → sent_of c x ≡ cond (eqb (get_or x (outgoing_place c - flag_bytes) 0) 1) (some (outgoing_of (drop (outgoing_place c) x))) none
 unfolding registrar_sent end_entity_sent
 sent_is (AtRegistrar c a) x = refl
 sent_is (AtEndEntity k c a) x = refl
 sent_is (EndEntityStart b s k i n a) x = refl
 
-sends_some : (b : Bool) (o u : Outgoing) → sent_by b o ≡ some u → (b ≡ true) × (o ≡ u)
+sends_some : (b : Bool) (o u : Outgoing) → cond b (some o) none ≡ some u → (b ≡ true) × (o ≡ u)
 sends_some true o u e = (refl, some_some e)
 sends_some false o u e = none_some e
 
@@ -39,7 +39,7 @@ gave_bytes e o g =
     (eqb-true _ _ q.0, q.1)
 
 pub bytes_gave : (e : LentEvent) → sends_in e ≡ 1 → (event_of e).sent ≡ some (outgoing_of (outgoing_in e))
-bytes_gave e s = sent_is e.call e.answer ∙ ap (λ (b : Bool). sent_by b (outgoing_of (outgoing_in e))) (eq-eqb _ _ s)
+bytes_gave e s = sent_is e.call e.answer ∙ ap (λ (b : Bool). cond b (some (outgoing_of (outgoing_in e))) none) (eq-eqb _ _ s)
 
 -- an event of the calls that were made
 pub made_some : (P : Event → Type 0) (Q : LentEvent → Type 0) (e : LentEvent) (es : List LentEvent)

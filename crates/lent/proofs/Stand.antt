@@ -1,13 +1,14 @@
 -- Bytes that stand for a run's world: what they are, and what is read out of them.
-use Rattle.std.specs.Prelude.{Some, is_some}
+use Rattle.std.specs.Prelude.{Some, is_some, None}
 use Prim.Native.Nat.{ℕ, zero, suc}
 use mathlib.Core.List.{List, [], ◌∷◌, ◌++◌}
-use mathlib.Core.Bool.{Bool, true, false}
+use mathlib.Core.Bool.{Bool, true, false, cond}
 use mathlib.Core.Option.{Option, none, some}
 use mathlib.Core.Path.{◌≡◌, refl, sym, ◌∙◌, ap}
 use borrow.Author.Tests.{eq-eqb}
 use lib.ListN.{length, get_elem?, set}
 use lib.Dec.{leb}
+use Rattle.protocol.specs.Types.{ToSend}
 use Rattle.protocol.specs.declared.TransactionTable.{TransactionTable}
 use Rattle.protocol.specs.declared.Enrolment.{Enrolment}
 use Rattle.protocol.specs.declared.Outcome.{Outcome}
@@ -18,7 +19,7 @@ use Rattle.protocol.specs.Run.{World, BoardEnrolment, sent_by}
 use Rattle.protocol.proofs.Tests.{true_false, some_some}
 use Rattle.packed.specs.Bytes.{pack_at}
 use Rattle.packed.specs.Outgoing.{OutgoingSized}
-use Rattle.packed.specs.Answer.{outcome_number, registrar_answer_bytes, pack_registrar_answer, end_entity_answer_bytes, pack_end_entity_answer}
+use Rattle.packed.specs.Answer.{sent_or_silent, outcome_number, registrar_answer_bytes, pack_registrar_answer, end_entity_answer_bytes, pack_end_entity_answer}
 use Rattle.packed.specs.Table.{table_bytes, pack_table, unpack_table, table_held, pack_table_in, TableSized}
 use Rattle.packed.specs.Enrolment.{enrolment_bytes, pack_enrolment, unpack_enrolment, enrolment_held, pack_enrolment_in, EnrolmentSized}
 use Rattle.packed.proofs.AnswerInverse.{registrar_sends_back, registrar_outgoing_back, end_entity_sends_back, end_entity_outgoing_back}
@@ -153,12 +154,16 @@ was_made (Refused n f) = refl
 
 -- ## What is to be sent
 
-pub registrar_sent_back : (a : RegistrarAnswer) (b : List ℕ) → OutgoingSized a.outgoing → leb registrar_answer_bytes (length b) ≡ true
-    → registrar_sent (pack_at 0 registrar_answer_bytes (pack_registrar_answer a) b) ≡ sent_by a.sends a.outgoing
-unfolding registrar_sent
-registrar_sent_back a b z r = rw (registrar_sends_back a b z r, registrar_outgoing_back a b z r)
+sent_there : (o : ToSend) → cond (is_some o) (some (sent_or_silent o)) none ≡ sent_by o
+sent_there (Some o) = refl
+sent_there None = refl
 
-pub end_entity_sent_back : (a : EndEntityAnswer) (b : List ℕ) → OutgoingSized a.outgoing → leb end_entity_answer_bytes (length b) ≡ true
-    → end_entity_sent (pack_at 0 end_entity_answer_bytes (pack_end_entity_answer a) b) ≡ sent_by a.sends a.outgoing
+pub registrar_sent_back : (a : RegistrarAnswer) (b : List ℕ) → OutgoingSized (sent_or_silent a.outgoing) → leb registrar_answer_bytes (length b) ≡ true
+    → registrar_sent (pack_at 0 registrar_answer_bytes (pack_registrar_answer a) b) ≡ sent_by a.outgoing
+unfolding registrar_sent
+registrar_sent_back a b z r = rw (registrar_sends_back a b z r, registrar_outgoing_back a b z r, sent_there a.outgoing)
+
+pub end_entity_sent_back : (a : EndEntityAnswer) (b : List ℕ) → OutgoingSized (sent_or_silent a.outgoing) → leb end_entity_answer_bytes (length b) ≡ true
+    → end_entity_sent (pack_at 0 end_entity_answer_bytes (pack_end_entity_answer a) b) ≡ sent_by a.outgoing
 unfolding end_entity_sent
-end_entity_sent_back a b z r = rw (end_entity_sends_back a b z r, end_entity_outgoing_back a b z r)
+end_entity_sent_back a b z r = rw (end_entity_sends_back a b z r, end_entity_outgoing_back a b z r, sent_there a.outgoing)

@@ -6,7 +6,7 @@ use mathlib.Core.Path.{◌≡◌, refl}
 use lib.ListN.{length}
 use lib.Dec.{eqb, leb}
 use Rattle.protocol.specs.declared.Board.{Board}
-use Rattle.protocol.specs.Types.{FailureInfo}
+use Rattle.protocol.specs.Types.{FailureInfo, ToSend}
 use Rattle.protocol.specs.declared.EndEntityAnswer.{EndEntityAnswer}
 use Rattle.message.specs.declared.ReadFault.{ReadFault}
 use Rattle.protocol.specs.declared.Outgoing.{Outgoing}
@@ -35,31 +35,31 @@ module _ (l : LentWorld) (w : World) (st : Stands l w) (d : Board) (s : List ℕ
   After a x = Stands (start_lent l c d x) (cond (is_made x.code) (start_did w (call_of c) d a (unless_refused a.outcome (id_of i))) w)
 
   -- an answer whose outcome is not a variable
-  abbrev with : Outcome → ReadFault → Bool → Outgoing → Enrolment → EndEntityAnswer
-  with o f v g y = record { outcome = o; fault = f; sends = v; outgoing = g; enrolment = y }
+  abbrev with : Outcome → ReadFault → ToSend → Enrolment → EndEntityAnswer
+  with o f g y = record { outcome = o; fault = f; outgoing = g; enrolment = y }
 
-  module _ (f : ReadFault) (v : Bool) (g : Outgoing) (y : Enrolment) where
-    done : EndEntitySized (with Done f v g y) → eqb (length s) enrolment_bytes ≡ true → leb end_entity_answer_bytes (length b) ≡ true
-        → After (with Done f v g y) (start_written (with Done f v g y) s b)
+  module _ (f : ReadFault) (g : ToSend) (y : Enrolment) where
+    done : EndEntitySized (with Done f g y) → eqb (length s) enrolment_bytes ≡ true → leb end_entity_answer_bytes (length b) ≡ true
+        → After (with Done f g y) (start_written (with Done f g y) s b)
     unfolding events_of pack_enrolment_in
     done z o r =
         record {
           table = st.table;
           sized = st.sized;
           enrolments = stand_add l.enrolments w.enrolments st.enrolments _ _ (record { board = refl; bytes = rw o; sized = z.enrolment });
-          past = rw (end_entity_sent_back (with Done f v g y) b z.outgoing r, end_entity_outcome_back (with Done f v g y) b z.outgoing r z.outcome, read_table st, st.past);
+          past = rw (end_entity_sent_back (with Done f g y) b z.outgoing r, end_entity_outcome_back (with Done f g y) b z.outgoing r z.outcome, read_table st, st.past);
           tables = (table_ok st, st.tables);
         }
 
-    refused : (m : ℕ) (q : FailureInfo) → EndEntitySized (with (Refused m q) f v g y) → leb end_entity_answer_bytes (length b) ≡ true
-        → After (with (Refused m q) f v g y) (start_written (with (Refused m q) f v g y) s b)
+    refused : (m : ℕ) (q : FailureInfo) → EndEntitySized (with (Refused m q) f g y) → leb end_entity_answer_bytes (length b) ≡ true
+        → After (with (Refused m q) f g y) (start_written (with (Refused m q) f g y) s b)
     unfolding events_of
     refused m q z r =
         record {
           table = st.table;
           sized = st.sized;
           enrolments = st.enrolments;
-          past = rw (end_entity_sent_back (with (Refused m q) f v g y) b z.outgoing r, end_entity_outcome_back (with (Refused m q) f v g y) b z.outgoing r z.outcome, read_table st, st.past);
+          past = rw (end_entity_sent_back (with (Refused m q) f g y) b z.outgoing r, end_entity_outcome_back (with (Refused m q) f g y) b z.outgoing r z.outcome, read_table st, st.past);
           tables = (table_ok st, st.tables);
         }
 
@@ -81,6 +81,6 @@ module _ (l : LentWorld) (w : World) (st : Stands l w) (d : Board) (s : List ℕ
   unfolding end_entity_start
   start-step p =
       cases (λ (a : EndEntityAnswer). EndEntitySized a → After a (start_crossing p a s b)) (is_starting_kind k) _ _
-      (λ _ z. crossed _ z p (done _ _ _ _ z))
-      (λ _ z. crossed _ z p (λ _. refused _ _ _ _ _ _ z))
+      (λ _ z. crossed _ z p (done _ _ _ z))
+      (λ _ z. crossed _ z p (λ _. refused _ _ _ _ _ z))
       (start_sized k (id_of i) (fresh_of n) (sixteen_in i) (sixteen_in n))

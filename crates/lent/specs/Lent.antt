@@ -7,7 +7,7 @@ use Rattle.protocol.specs.declared.TransactionId.{TransactionId}
 use Rattle.protocol.specs.declared.Outcome.{Outcome}
 use Rattle.protocol.specs.declared.Outgoing.{Outgoing}
 use Rattle.protocol.specs.Table.{empty_table}
-use Rattle.protocol.specs.Run.{Call, Start, End, TheRegistrar, OneBoard, NoEnd, Event, World, BoardEnrolment, unless_refused, sent_by, run}
+use Rattle.protocol.specs.Run.{Call, Start, End, TheRegistrar, OneBoard, NoEnd, Event, World, BoardEnrolment, unless_refused, run}
 use Rattle.protocol.specs.Agreement.{Fair, Agreement}
 use Rattle.packed.specs.Bytes.{flag_at}
 use Rattle.packed.specs.Outgoing.{outgoing_of}
@@ -104,10 +104,10 @@ made w (c ∷ cs) = cond (is_made (crossing w c).code) (call_of c ∷ made (lent
 
 -- what is to be sent: duskstall_registrar_outgoing, duskstall_end_entity_outgoing
 unfoldable pub registrar_sent : List ℕ → Option Outgoing
-registrar_sent s = sent_by (flag_at registrar_sends_place s) (outgoing_of (drop registrar_outgoing_place s))
+registrar_sent s = cond (flag_at registrar_sends_place s) (some (outgoing_of (drop registrar_outgoing_place s))) none
 
 unfoldable pub end_entity_sent : List ℕ → Option Outgoing
-end_entity_sent s = sent_by (flag_at end_entity_sends_place s) (outgoing_of (drop end_entity_outgoing_place s))
+end_entity_sent s = cond (flag_at end_entity_sends_place s) (some (outgoing_of (drop end_entity_outgoing_place s))) none
 
 abbrev pub sent_of : LentCall → List ℕ → Option Outgoing
 sent_of (AtRegistrar c a) x = registrar_sent x

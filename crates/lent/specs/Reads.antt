@@ -1,5 +1,5 @@
 -- What is read out of the bytes after a call that was made is the answer of the call on values, all of it: what is proved of answers holds of the bytes.
-use Rattle.std.specs.Prelude.{ℕ, List, true, cond, ◌≡◌, length, drop, eqb, Some, None}
+use Rattle.std.specs.Prelude.{ℕ, List, true, cond, ◌≡◌, length, drop, eqb, Some, None, is_some}
 use Rattle.std.proofs.Math.ListN.{get_elem?}
 use Rattle.protocol.specs.declared.TransactionTable.{TransactionTable}
 use Rattle.protocol.specs.declared.Enrolment.{Enrolment}
@@ -9,7 +9,7 @@ use Rattle.protocol.specs.EndEntity.{end_entity_start}
 use Rattle.protocol.specs.Promises.{AtMostOne, AllUnsetZero}
 use Rattle.packed.specs.Bytes.{flag_at}
 use Rattle.packed.specs.Outgoing.{outgoing_of}
-use Rattle.packed.specs.Answer.{outcome_number, outcome_of, read_fault_of, registrar_answer_of, end_entity_answer_of}
+use Rattle.packed.specs.Answer.{sent_or_silent, outcome_number, outcome_of, read_fault_of, registrar_answer_of, end_entity_answer_of}
 use Rattle.packed.specs.Table.{table_bytes, table_held}
 use Rattle.packed.specs.Enrolment.{enrolment_held}
 use Rattle.duskstall.specs.Boundary.{Crossing}
@@ -46,8 +46,8 @@ pub record StartReads (x : Crossing) (a : EndEntityAnswer) : Type 0 where
   pub code : x.code ≡ outcome_number a.outcome
   pub outcome : outcome_of x.answer ≡ a.outcome
   pub fault : read_fault_of x.answer ≡ a.fault
-  pub sends : flag_at end_entity_sends_place x.answer ≡ a.sends
-  pub outgoing : outgoing_of (drop end_entity_outgoing_place x.answer) ≡ a.outgoing
+  pub sends : flag_at end_entity_sends_place x.answer ≡ is_some a.outgoing
+  pub outgoing : outgoing_of (drop end_entity_outgoing_place x.answer) ≡ sent_or_silent a.outgoing
   pub enrolment : x.code ≡ 0 → enrolment_held x.state ≡ a.enrolment
 
 abbrev pub ReadsBack : LentWorld → LentCall → Type 0

@@ -5,6 +5,8 @@ use Rattle.protocol.specs.declared.Outcome.{Outcome}
 use Rattle.protocol.specs.declared.Outcome.TheVariants.{Done, Again, Refused}
 use Rattle.protocol.specs.declared.RegistrarAnswer.{RegistrarAnswer}
 use Rattle.protocol.specs.declared.EndEntityAnswer.{EndEntityAnswer}
+use Rattle.protocol.specs.declared.Outgoing.{Outgoing}
+use Rattle.protocol.specs.Types.{ToSend}
 use Rattle.protocol.specs.Outgoing.{silent}
 use Rattle.packed.specs.Bytes.{flag, flag_at, eight_bytes, eight_at}
 use Rattle.packed.specs.Places.{answer_code_at, answer_refusal_at, answer_bit_at, answer_fault_at, answer_offset_at, answer_rule_at, registrar_slot_at, registrar_sends_at, registrar_outgoing_at, registrar_end, end_entity_sends_at, end_entity_outgoing_at, end_entity_end}
@@ -41,6 +43,10 @@ pack_fault f = (f.number ∷ []) ++ (eight_bytes f.at.0 ++ (f.rule ∷ []))
 
 -- ## The answers
 
+-- what stands in the bytes: the message to be sent, or what stands where there is none
+abbrev pub sent_or_silent : ToSend → Outgoing
+sent_or_silent o = unwrap_or o silent
+
 -- a slot in one byte; 255 stands for all past it, which no table has
 abbrev pub slot_byte : ℕ → ℕ
 slot_byte n = cond (ltb n 255) n 255
@@ -54,7 +60,7 @@ pack_registrar_answer a =
     pack_fault a.fault ++ (
     (slot_byte a.slot.0 ∷ []) ++ (
     (flag (is_some a.outgoing) ∷ []) ++
-    pack_outgoing (unwrap_or a.outgoing silent))))
+    pack_outgoing (sent_or_silent a.outgoing))))
 
 abbrev pub end_entity_answer_bytes : ℕ
 end_entity_answer_bytes = end_entity_end
@@ -64,7 +70,7 @@ pack_end_entity_answer a =
     pack_outcome a.outcome ++ (
     pack_fault a.fault ++ (
     (flag (is_some a.outgoing) ∷ []) ++
-    pack_outgoing (unwrap_or a.outgoing silent)))
+    pack_outgoing (sent_or_silent a.outgoing)))
 
 -- ## What the bytes say: of an answer b, with the state s after the call
 

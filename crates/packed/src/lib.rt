@@ -5,6 +5,6 @@ pub mod answer;
 pub mod arrays;
 mod bytes;
 pub mod enrolment;
-pub mod outgoing;
+pub mod sent;
 mod places;
 pub mod table;

@@ -2,7 +2,7 @@
 use mathlib.Core.Path.{refl}
 use Rattle.packed.specs.Outgoing.{pack_names}
 use Rattle.packed.proofs.Copies.{next, one}
-use Rattle.packed.proofs.outgoing.put_names.Goals as goal
+use Rattle.packed.proofs.sent.put_names.Goals as goal
 
 pub returns : goal.returns
 unfolding pack_names

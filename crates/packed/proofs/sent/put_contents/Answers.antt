@@ -4,7 +4,7 @@ use borrow.Author.Rules.{rules}
 use Rattle.packed.specs.Outgoing.{pack_contents}
 use Rattle.packed.proofs.Copies.{next, one_of}
 use Rattle.packed.proofs.Numbers.{four_put}
-use Rattle.packed.proofs.outgoing.put_contents.Goals as goal
+use Rattle.packed.proofs.sent.put_contents.Goals as goal
 
 pub returns : goal.returns
 unfolding pack_contents

@@ -2,7 +2,7 @@
 use mathlib.Core.Path.{◌∙◌}
 use Rattle.packed.specs.Places.{outgoing_status_at, outgoing_number_at}
 use Rattle.packed.proofs.Numbers.{four_read}
-use Rattle.packed.proofs.outgoing.get_contents.Goals as goal
+use Rattle.packed.proofs.sent.get_contents.Goals as goal
 
 pub returns : goal.returns
 returns c =
