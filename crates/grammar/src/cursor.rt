@@ -18,7 +18,7 @@ pub struct Cursor {
     pub rule: usize,
 }
 
-// The tag byte of the next element; 0, which is no tag, where nothing is left.
+// The tag byte of the next element; 0, which is no tag, where nothing is left. No Option, since the definition `tag_at` is a number.
 #[tactic(auto, unfolding(crate::specs::Cursor::tag_at))]
 pub(crate) fn tag_at(m: &[u8], c: Cursor) -> u8
     ensures { result ≡ tag_at m.now c }

@@ -174,7 +174,7 @@ fn next_entry(m: &[u8], e: Entries, what: EntryKind) -> Entries
     }
 }
 
-// Entries one after another up to the parent's end.
+// Entries one after another up to the parent's end. A loop beside `parts::all`, as one for both needs a trait for where the cursor stands.
 #[tactic(auto, using(crate::proofs::EntryLaws::entry_by_entry))]
 pub(crate) fn read_entries(m: &[u8], c: Cursor, what: EntryKind) -> Entries
     ensures { result ≡ entries_of m.now what c }

@@ -55,7 +55,7 @@ pub struct Entry {
     pub request: Span,
 }
 
-// PKIBody: its kind is the number of its tag. `ca_pubs` is a whole element.
+// PKIBody: its kind is the number of its tag, as the definition `body_of` has it. `ca_pubs` is a whole element.
 #[derive(Clone, Copy)]
 pub struct Body {
     pub kind: u8,

@@ -104,7 +104,7 @@ fn optional<F: FnOnce(Cursor) -> Cursor>(m: &[u8], c: Cursor, tag: u8, inside: F
     }
 }
 
-// AlgorithmIdentifier or InfoTypeAndValue.
+// AlgorithmIdentifier or InfoTypeAndValue. Not by `around`: a closure of two calls needs clauses of its own, and is no plainer.
 #[tactic(auto, unfolding(crate::specs::Parts::typed_of))]
 pub(crate) fn typed(m: &[u8], c: Cursor) -> Cursor
     ensures { result ≡ typed_of m.now c }

@@ -18,6 +18,7 @@ pub struct Contents {
     pub entry: Entry,
 }
 
+// The body, and the cursor past it: a struct for each part that is read, as definitions in specs/ name their fields.
 #[derive(Clone, Copy)]
 pub struct BodyRead {
     pub cur: Cursor,

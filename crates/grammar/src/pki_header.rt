@@ -36,6 +36,7 @@ pub struct Ids {
     pub general_info: Span,
 }
 
+// The header, and the cursor past it: a struct for each part that is read, as definitions in specs/ name their fields.
 #[derive(Clone, Copy)]
 pub struct HeaderRead {
     pub cur: Cursor,
