@@ -5,8 +5,6 @@
 // failed.
 #![tactic(auto)]
 
-ghost use Rattle.std.specs.Prelude.{◌≡◌, ◌≤◌, length, take};
-
 use grammar::{Message, Span};
 use message::Reading;
 use std::io;
