@@ -10,7 +10,8 @@ use borrow.Author.Tests.{lt-ltb}
 use Rattle.std.specs.Int.{to_be_bytes, byte_at}
 use mir.Syntax.{w32}
 use Rattle.encoding.specs.Element.{element, integer_bytes, integer}
-use Rattle.writer.specs.Puts.{Puts}
+use Rattle.writer.specs.declared.put.Cursor.{Cursor}
+use Rattle.writer.specs.Wrote.{Wrote}
 use Rattle.writer.specs.Sizes.{Size}
 use Rattle.writer.specs.Code.{unneeded}
 use Rattle.writer.proofs.Sizes.{size-around}
@@ -54,7 +55,7 @@ integer-size n r e h =
     let k : 4 - unneeded n < 128 = omega arith in
     size-around 2 (needed_size n) (rw (lt-ltb (4 - unneeded n) 128 k) (omega (arith, e)))
 
-pub integer-put : {at r k : ℕ} {s s' : List ℕ} (n : ℕ) → k ≡ unneeded n → Puts at r (element 2 (take (4 - k) (drop k (four_bytes n)))) s s' → Puts at r (integer n) s s'
+pub integer-put : {c c' : Cursor} {k : ℕ} (n : ℕ) → k ≡ unneeded n → Wrote (element 2 (take (4 - k) (drop k (four_bytes n)))) c c' → Wrote (integer n) c c'
 unfolding integer
-integer-put {at} {r} {k} {s} {s'} n e p =
-    subst (λ (l : List ℕ). Puts at r (element 2 l) s s') (ap (λ (j : ℕ). take (4 - j) (drop j (four_bytes n))) e ∙ needed n) p
+integer-put {c} {c'} n e p =
+    subst (λ (l : List ℕ). Wrote (element 2 l) c c') (ap (λ (j : ℕ). take (4 - j) (drop j (four_bytes n))) e ∙ needed n) p

@@ -1,4 +1,5 @@
 pub mod Puts
+pub mod Wrote
 pub mod Sizes
 pub mod Integers
 pub mod Headers

@@ -1,6 +1,6 @@
 -- Laws of bytes put into a buffer.
 use Prim.Native.Nat.{ℕ, suc, ◌+◌, ◌-◌, ◌<◌, ◌≤◌}
-use mathlib.Core.List.{List, [], ◌∷◌, ◌++◌, append-nil}
+use mathlib.Core.List.{List, [], ◌∷◌, ◌++◌}
 use mathlib.Core.Path.{◌≡◌, refl, sym, ◌∙◌, ap, subst}
 use native.Mathlib.Nat.{add-zero, suc-add, add-suc}
 use native.Mathlib.Omega.{arith}
@@ -32,14 +32,10 @@ module _ (x s : List ℕ) (at : ℕ) where
       ∙ sym (sets-eq x s at room) in
       record { size = ap length is ∙ length-sets s at x; put = λ room few. record { is = is; end = refl } }
 
--- the same bytes under another name
-pub puts_as : {at r : ℕ} {x y s s' : List ℕ} → x ≡ y → Puts at r y s s' → Puts at r x s s'
-puts_as {at} {r} {x} {y} {s} {s'} e p = subst (λ (l : List ℕ). Puts at r l s s') (sym e) p
-
 -- ## One after another
 
-pub ◌then◌ : {at b r : ℕ} {x y s₀ s₁ s₂ : List ℕ} → Puts at b x s₀ s₁ → Puts b r y s₁ s₂ → Puts at r (x ++ y) s₀ s₂
-◌then◌ {at} {b} {r} {x} {y} {s₀} {s₁} {s₂} p q = record {
+pub joined : {at b r : ℕ} {x y s₀ s₁ s₂ : List ℕ} → Puts at b x s₀ s₁ → Puts b r y s₁ s₂ → Puts at r (x ++ y) s₀ s₂
+joined {at} {b} {r} {x} {y} {s₀} {s₁} {s₂} p q = record {
   size = q.size ∙ p.size;
   put = λ room few.
       let e = length-append x y in
@@ -50,19 +46,14 @@ pub ◌then◌ : {at b r : ℕ} {x y s₀ s₁ s₂ : List ℕ} → Puts at b x 
       record { is = v.is ∙ rw (u.is, u.end) (sym (sets_append s₀ at x y)); end = omega (arith, v.end, w, e) };
 }
 
-infixr 5 ◌then◌
--- the last of a content's parts
-pub last : {at r : ℕ} {x s s' : List ℕ} → Puts at r x s s' → Puts at r (x ++ []) s s'
-last {at} {r} {x} {s} {s'} p = subst (λ (l : List ℕ). Puts at r l s s') (sym (append-nil x)) p
-
 -- ## An element: its head, then its content, of which the size is known
 
-pub around : {at a r n : ℕ} {v s₀ s₁ s₂ : List ℕ} (tag : ℕ) → Size n v → Puts at a (head_bytes tag n) s₀ s₁ → Puts a r v s₁ s₂ → Puts at r (element tag v) s₀ s₂
+pub around_head : {at a r n : ℕ} {v s₀ s₁ s₂ : List ℕ} (tag : ℕ) → Size n v → Puts at a (head_bytes tag n) s₀ s₁ → Puts a r v s₁ s₂ → Puts at r (element tag v) s₀ s₂
 unfolding element
-around {at} {a} {r} {n} {v} {s₀} {s₁} {s₂} tag e p q = record {
+around_head {at} {a} {r} {n} {v} {s₀} {s₁} {s₂} tag e p q = record {
   size = q.size ∙ p.size;
   put = λ room few.
       let k : length v < 65536 = omega (arith, length-append (head_bytes tag (length v)) v) in
       let f : n ≡ length v = e.is ∙ omega arith in
-      (subst (λ (j : ℕ). Puts at a (head_bytes tag j) s₀ s₁) f p then q).put room few;
+      (joined (subst (λ (j : ℕ). Puts at a (head_bytes tag j) s₀ s₁) f p) q).put room few;
 }

@@ -5,13 +5,13 @@ ghost use Rattle.protocol.specs.Bytes.{zeros, bytes_of};
 ghost use Rattle.protocol.specs.Message.{optional_part};
 ghost use Rattle.encoding.specs.Element.{element, optional};
 ghost use Rattle.encoding.specs.Message.{bit_content, failure_bits, status_bytes, requests_bytes, key_pair_bytes, responses_bytes, confirmations_bytes, error_bytes, content_bytes};
-ghost use Rattle.writer.specs.Puts.{Puts};
+ghost use Rattle.writer.specs.Wrote.{Wrote};
 ghost use Rattle.writer.specs.Sizes.{Size};
 ghost use Rattle.given.specs.Spans.{given_of};
 ghost use Rattle.writer.specs.Code.{status_content, response_content, confirmation_content};
 
-use crate::element::{given_part, integer_size, part_size, put_element, put_integer, put_part};
-use crate::put::{bytes, head};
+use crate::element::{given_part, integer_size, part_size};
+use crate::put::Cursor;
 use crate::size::{around, size, sum};
 use given::GivenSpans;
 use grammar::Span;
@@ -20,39 +20,48 @@ use protocol::{FailureInfo, Hash, OutgoingContents};
 
 // ## PKIStatusInfo
 
-// The zeros before the byte with the bit: fewer than 32, as a bit's number has 8 bits, which `% 32` says to the prover.
-fn put_zeros(buf: &mut [u8], at: usize, n: u8) -> usize
-    ensures { Puts at result (zeros (n % 32)) buf.old buf.new }
-{
-    let z = [0u8; 32];
-    bytes(buf, at, &z[..usize::from(n % 32)])
-}
+impl Cursor<'_> {
+    // The zeros before the byte with the bit: fewer than 32, as a bit's number has 8 bits, which `% 32` says to the prover.
+    fn put_zeros(&mut self, n: u8)
+        ensures { Wrote (zeros (n % 32)) self.old self.new }
+    {
+        let z = [0u8; 32];
+        self.put_bytes(&z[..usize::from(n % 32)]);
+    }
 
-// A BIT STRING in which just this bit is set, its head before it.
-fn put_bit(buf: &mut [u8], at: usize, bit: u8) -> usize
-    ensures { Puts at result (element 0x03 (bit_content bit)) buf.old buf.new }
-{
-    let unused = 7 - bit % 8;
-    let a = head(buf, at, 0x03, bit_content_size(bit));
-    let b = bytes(buf, a, &[unused]);
-    let c = put_zeros(buf, b, bit / 8);
-    bytes(buf, c, &[1 << unused])
+    // A BIT STRING in which just this bit is set, its head before it.
+    fn put_bit(&mut self, bit: u8)
+        ensures { Wrote (element 0x03 (bit_content bit)) self.old self.new }
+    {
+        let unused = 7 - bit % 8;
+        self.put_head(0x03, bit_content_size(bit));
+        self.put_bytes(&[unused]);
+        self.put_zeros(bit / 8);
+        self.put_bytes(&[1 << unused]);
+    }
+
+    #[tactic(auto, unfolding(encoding::specs::Element::optional))]
+    fn put_failure(&mut self, f: FailureInfo)
+        ensures { Wrote (optional 0x03 (failure_bits f)) self.old self.new }
+    {
+        if let Some(bit) = f {
+            self.put_bit(bit);
+        }
+    }
+
+    fn put_status(&mut self, status: u32, f: FailureInfo)
+        ensures { Wrote (status_bytes status (failure_bits f)) self.old self.new }
+    {
+        self.put_head(0x30, status_content_size(status, f));
+        self.put_integer(status);
+        self.put_failure(f);
+    }
 }
 
 fn bit_content_size(bit: u8) -> u16
     ensures { Size result (bit_content bit) }
 {
     u16::from(bit / 8) + 2
-}
-
-#[tactic(auto, unfolding(encoding::specs::Element::optional))]
-fn put_failure(buf: &mut [u8], at: usize, f: FailureInfo) -> usize
-    ensures { Puts at result (optional 0x03 (failure_bits f)) buf.old buf.new }
-{
-    match f {
-        None => at,
-        Some(bit) => put_bit(buf, at, bit),
-    }
 }
 
 #[tactic(auto, unfolding(encoding::specs::Element::optional))]
@@ -71,14 +80,6 @@ fn status_content_size(status: u32, f: FailureInfo) -> u16
     sum(integer_size(status), failure_size(f))
 }
 
-fn put_status(buf: &mut [u8], at: usize, status: u32, f: FailureInfo) -> usize
-    ensures { Puts at result (status_bytes status (failure_bits f)) buf.old buf.new }
-{
-    let a = head(buf, at, 0x30, status_content_size(status, f));
-    let b = put_integer(buf, a, status);
-    put_failure(buf, b, f)
-}
-
 fn status_size(status: u32, f: FailureInfo) -> u16
     ensures { Size result (status_bytes status (failure_bits f)) }
 {
@@ -87,11 +88,13 @@ fn status_size(status: u32, f: FailureInfo) -> u16
 
 // ## Requests
 
-fn put_requests(buf: &mut [u8], at: usize, src: &[u8], request: Span) -> usize
-    ensures { Puts at result (requests_bytes (bytes_of (optional_part src.now request))) buf.old buf.new }
-{
-    let a = head(buf, at, 0x30, part_size(src, request));
-    put_part(buf, a, src, request)
+impl Cursor<'_> {
+    fn put_requests(&mut self, src: &[u8], request: Span)
+        ensures { Wrote (requests_bytes (bytes_of (optional_part src.now request))) self.old self.new }
+    {
+        self.put_head(0x30, part_size(src, request));
+        self.put_part(src, request);
+    }
 }
 
 fn requests_size(src: &[u8], request: Span) -> u16
@@ -101,6 +104,41 @@ fn requests_size(src: &[u8], request: Span) -> u16
 }
 
 // ## Responses
+
+impl Cursor<'_> {
+    #[tactic(auto, unfolding(encoding::specs::Message::key_pair_bytes))]
+    fn put_key_pair(&mut self, src: &[u8], certificate: Span)
+        ensures { Wrote (key_pair_bytes (optional_part src.now certificate)) self.old self.new }
+    {
+        if let Some(e) = given_part(src, certificate) {
+            let n = size(e);
+            self.put_head(0x30, around(n));
+            self.put_head(0xA0, n);
+            self.put_bytes(e);
+        }
+    }
+
+    // What a response holds.
+    fn put_response_content(&mut self, src: &[u8], certificate: Span, number: u32, status: u32)
+        ensures { Wrote (response_content number status (optional_part src.now certificate)) self.old self.new }
+    {
+        self.put_integer(number);
+        self.put_status(status, None);
+        self.put_key_pair(src, certificate);
+    }
+
+    fn put_responses(&mut self, src: &[u8], certificate: Span, number: u32, status: u32)
+        ensures { Wrote (responses_bytes number status (optional_part src.now certificate)) self.old self.new }
+    {
+        let n = response_content_size(src, certificate, number, status);
+        let response = around(n);
+        let responses = around(response);
+        self.put_head(0x30, responses);
+        self.put_head(0x30, response);
+        self.put_head(0x30, n);
+        self.put_response_content(src, certificate, number, status);
+    }
+}
 
 #[tactic(auto, unfolding(encoding::specs::Message::key_pair_bytes))]
 fn key_pair_size(src: &[u8], certificate: Span) -> u16
@@ -112,59 +150,11 @@ fn key_pair_size(src: &[u8], certificate: Span) -> u16
     }
 }
 
-#[tactic(auto, unfolding(encoding::specs::Message::key_pair_bytes))]
-fn put_key_pair(buf: &mut [u8], at: usize, src: &[u8], certificate: Span) -> usize
-    ensures { Puts at result (key_pair_bytes (optional_part src.now certificate)) buf.old buf.new }
-{
-    let Some(e) = given_part(src, certificate) else {
-        return at;
-    };
-    let n = size(e);
-    let a = head(buf, at, 0x30, around(n));
-    let b = head(buf, a, 0xA0, n);
-    bytes(buf, b, e)
-}
-
 fn response_content_size(src: &[u8], certificate: Span, number: u32, status: u32) -> u16
     ensures { Size result (response_content number status (optional_part src.now certificate)) }
 {
     let info = sum(status_size(status, None), key_pair_size(src, certificate));
     sum(integer_size(number), info)
-}
-
-// What a response holds.
-fn put_response_content(
-    buf: &mut [u8],
-    at: usize,
-    src: &[u8],
-    certificate: Span,
-    number: u32,
-    status: u32,
-) -> usize
-    ensures { Puts at result (response_content number status (optional_part src.now certificate)) buf.old buf.new }
-{
-    let a = put_integer(buf, at, number);
-    let b = put_status(buf, a, status, None);
-    put_key_pair(buf, b, src, certificate)
-}
-
-fn put_responses(
-    buf: &mut [u8],
-    at: usize,
-    src: &[u8],
-    certificate: Span,
-    number: u32,
-    status: u32,
-) -> usize
-    ensures { Puts at result (responses_bytes number status (optional_part src.now certificate)) buf.old buf.new }
-{
-    let n = response_content_size(src, certificate, number, status);
-    let response = around(n);
-    let responses = around(response);
-    let a = head(buf, at, 0x30, responses);
-    let b = head(buf, a, 0x30, response);
-    let c = head(buf, b, 0x30, n);
-    put_response_content(buf, c, src, certificate, number, status)
 }
 
 fn responses_size(src: &[u8], certificate: Span, number: u32, status: u32) -> u16
@@ -175,22 +165,33 @@ fn responses_size(src: &[u8], certificate: Span, number: u32, status: u32) -> u1
 
 // ## certConf
 
+impl Cursor<'_> {
+    // The status info of a certConf, or nothing.
+    fn put_other_status(&mut self, status: u32)
+        ensures { Wrote (cond (eqb status 0) [] (status_bytes status none)) self.old self.new }
+    {
+        if !is_left_out(status) {
+            self.put_status(status, None);
+        }
+    }
+
+    fn put_confirmations(&mut self, hash: Hash, number: u32, status: u32)
+        ensures { Wrote (confirmations_bytes hash.bytes number status) self.old self.new }
+    {
+        let n = confirmation_content_size(hash, number, status);
+        self.put_head(0x30, around(n));
+        self.put_head(0x30, n);
+        self.put_element(0x04, &hash.bytes);
+        self.put_integer(number);
+        self.put_other_status(status);
+    }
+}
+
 // "A certConf's status 0 being left out."
 fn is_left_out(status: u32) -> bool
     ensures { result ≡ eqb status 0 }
 {
     status == 0
-}
-
-// The status info of a certConf, or nothing.
-fn put_other_status(buf: &mut [u8], at: usize, status: u32) -> usize
-    ensures { Puts at result (cond (eqb status 0) [] (status_bytes status none)) buf.old buf.new }
-{
-    if is_left_out(status) {
-        at
-    } else {
-        put_status(buf, at, status, None)
-    }
 }
 
 fn other_status_size(status: u32) -> u16
@@ -210,17 +211,6 @@ fn confirmation_content_size(hash: Hash, number: u32, status: u32) -> u16
     sum(around(size(&hash.bytes)), rest)
 }
 
-fn put_confirmations(buf: &mut [u8], at: usize, hash: Hash, number: u32, status: u32) -> usize
-    ensures { Puts at result (confirmations_bytes hash.bytes number status) buf.old buf.new }
-{
-    let n = confirmation_content_size(hash, number, status);
-    let a = head(buf, at, 0x30, around(n));
-    let b = head(buf, a, 0x30, n);
-    let c = put_element(buf, b, 0x04, &hash.bytes);
-    let d = put_integer(buf, c, number);
-    put_other_status(buf, d, status)
-}
-
 fn confirmations_size(hash: Hash, number: u32, status: u32) -> u16
     ensures { Size result (confirmations_bytes hash.bytes number status) }
 {
@@ -229,11 +219,13 @@ fn confirmations_size(hash: Hash, number: u32, status: u32) -> u16
 
 // ## error
 
-fn put_error(buf: &mut [u8], at: usize, status: u32, f: FailureInfo) -> usize
-    ensures { Puts at result (error_bytes status f) buf.old buf.new }
-{
-    let a = head(buf, at, 0x30, status_size(status, f));
-    put_status(buf, a, status, f)
+impl Cursor<'_> {
+    fn put_error(&mut self, status: u32, f: FailureInfo)
+        ensures { Wrote (error_bytes status f) self.old self.new }
+    {
+        self.put_head(0x30, status_size(status, f));
+        self.put_status(status, f);
+    }
 }
 
 fn error_size(status: u32, f: FailureInfo) -> u16
@@ -244,10 +236,12 @@ fn error_size(status: u32, f: FailureInfo) -> u16
 
 // ## pkiconf
 
-fn put_null(buf: &mut [u8], at: usize) -> usize
-    ensures { Puts at result (element 0x05 []) buf.old buf.new }
-{
-    head(buf, at, 0x05, 0)
+impl Cursor<'_> {
+    fn put_null(&mut self)
+        ensures { Wrote (element 0x05 []) self.old self.new }
+    {
+        self.put_head(0x05, 0);
+    }
 }
 
 fn null_size() -> u16
@@ -258,24 +252,19 @@ fn null_size() -> u16
 
 // ## By the kind
 
-#[tactic(auto, unfolding(encoding::specs::Message::content_bytes))]
-pub(crate) fn put_content(
-    buf: &mut [u8],
-    at: usize,
-    src: &[u8],
-    g: GivenSpans,
-    kind: u8,
-    c: OutgoingContents,
-) -> usize
-    ensures { Puts at result (content_bytes (given_of src.now g) kind c) buf.old buf.new }
-{
-    match kind {
-        P10CR => put_part(buf, at, src, g.request),
-        _ if is_enrolment_kind(kind) => put_requests(buf, at, src, g.request),
-        _ if is_response(kind) => put_responses(buf, at, src, g.certificate, c.number, c.status),
-        ERROR => put_error(buf, at, c.status, c.failure),
-        CERT_CONF => put_confirmations(buf, at, c.hash, c.number, c.status),
-        _ => put_null(buf, at),
+impl Cursor<'_> {
+    #[tactic(auto, unfolding(encoding::specs::Message::content_bytes))]
+    pub(crate) fn put_content(&mut self, src: &[u8], g: GivenSpans, kind: u8, c: OutgoingContents)
+        ensures { Wrote (content_bytes (given_of src.now g) kind c) self.old self.new }
+    {
+        match kind {
+            P10CR => self.put_part(src, g.request),
+            _ if is_enrolment_kind(kind) => self.put_requests(src, g.request),
+            _ if is_response(kind) => self.put_responses(src, g.certificate, c.number, c.status),
+            ERROR => self.put_error(c.status, c.failure),
+            CERT_CONF => self.put_confirmations(c.hash, c.number, c.status),
+            _ => self.put_null(),
+        }
     }
 }
 

@@ -10,15 +10,16 @@ mod size;
 ghost use Rattle.std.specs.Prelude.{◌≡◌, ◌+◌, ◌<◌};
 ghost use Rattle.encoding.specs.Message.{body_bytes, encode};
 ghost use Rattle.writer.specs.Puts.{Puts};
+ghost use Rattle.writer.specs.Wrote.{Wrote};
 ghost use Rattle.writer.specs.Sizes.{Size};
 ghost use Rattle.given.specs.Spans.{given_of};
 ghost use Rattle.writer.specs.Code.{message_content};
 ghost use Rattle.writer.specs.Write.{write_answer, buffer_after};
 
-use crate::body::{content_size, put_content};
-use crate::element::{field_size, put_field};
-use crate::header::{header_content_size, put_header};
-use crate::put::head;
+use crate::body::content_size;
+use crate::element::field_size;
+use crate::header::header_content_size;
+use crate::put::Cursor;
 use crate::size::{around, sum};
 use given::GivenSpans;
 use given::fits::all_fit;
@@ -35,12 +36,23 @@ fn body_tag(kind: u8) -> u8
     if kind < 96 { 0xA0 + kind } else { 0 }
 }
 
-fn put_body(buf: &mut [u8], at: usize, src: &[u8], g: GivenSpans, o: Outgoing) -> usize
-    ensures { o.kind < 96 → Puts at result (body_bytes (given_of src.now g) o) buf.old buf.new }
-{
-    let n = content_size(src, g, o.kind, o.contents);
-    let a = head(buf, at, body_tag(o.kind), n);
-    put_content(buf, a, src, g, o.kind, o.contents)
+impl Cursor<'_> {
+    fn put_body(&mut self, src: &[u8], g: GivenSpans, o: Outgoing)
+        ensures { o.kind < 96 → Wrote (body_bytes (given_of src.now g) o) self.old self.new }
+    {
+        let n = content_size(src, g, o.kind, o.contents);
+        self.put_head(body_tag(o.kind), n);
+        self.put_content(src, g, o.kind, o.contents);
+    }
+
+    fn put_message(&mut self, src: &[u8], g: GivenSpans, o: Outgoing)
+        ensures { o.kind < 96 → Wrote (encode (given_of src.now g) o) self.old self.new }
+    {
+        self.put_head(0x30, message_content_size(src, g, o));
+        self.put_header(src, g, o);
+        self.put_body(src, g, o);
+        self.put_field(0xA0, 0x03, src, g.protection);
+    }
 }
 
 fn message_content_size(src: &[u8], g: GivenSpans, o: Outgoing) -> u16
@@ -51,15 +63,13 @@ fn message_content_size(src: &[u8], g: GivenSpans, o: Outgoing) -> u16
     sum(header, sum(body, field_size(src, g.protection)))
 }
 
-// All of it, from the buffer's first byte on.
-fn put_message(buf: &mut [u8], src: &[u8], g: GivenSpans, o: Outgoing) -> usize
+// From the buffer's first byte on.
+fn write_message(buf: &mut [u8], src: &[u8], g: GivenSpans, o: Outgoing) -> usize
     ensures { o.kind < 96 → Puts 0 result (encode (given_of src.now g) o) buf.old buf.new }
 {
-    let n = message_content_size(src, g, o);
-    let a = head(buf, 0, 0x30, n);
-    let b = put_header(buf, a, src, g, o);
-    let c = put_body(buf, b, src, g, o);
-    put_field(buf, c, 0xA0, 0x03, src, g.protection)
+    let mut out = Cursor { buf, at: 0 };
+    out.put_message(src, g, o);
+    out.at
 }
 
 // Writes the order and what is given as the buffer's first bytes. Refused, with nothing changed: by 34 where the message would be over the limit,
@@ -77,6 +87,6 @@ pub fn write(o: Outgoing, g: GivenSpans, src: &[u8], buf: &mut [u8]) -> Written
     if !all_fit(src, g, o) {
         return Err(36);
     }
-    put_message(buf, src, g, o);
+    write_message(buf, src, g, o);
     Ok(n)
 }

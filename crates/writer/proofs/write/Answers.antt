@@ -14,7 +14,7 @@ returns-then-buf-n c =
 
 pub returns : goal.returns
 returns c =
-    written _ _ _ _ (message-size _ _ c.message_content_size.ensures c.around.ensures c.from-n.ensures) (omega arith) (omega arith) (told c.all_fit.ensures c.if-not-all_fit.false) c.put_message.ensures
+    written _ _ _ _ (message-size _ _ c.message_content_size.ensures c.around.ensures c.from-n.ensures) (omega arith) (omega arith) (told c.all_fit.ensures c.if-not-all_fit.false) c.write_message.ensures
 
 pub returns-then-not-all_fit : goal.returns-then-not-all_fit
 returns-then-not-all_fit c =
