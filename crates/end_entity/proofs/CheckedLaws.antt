@@ -31,8 +31,8 @@ module _ (x : Enrolment) (d : EndEntityInput) (m : Fields) where
   abbrev rows : List Row
   rows = end_entity_rows x d.good m
 
-  pub refused_by : {n : Option ℕ} (k : ℕ) → n ≡ number_of (lowest_row rows) → n ≡ Some k → enrolment_refused k x ≡ end_entity_checked (lowest_row rows) x d m
-  unfolding end_entity_checked after_refusal
+  pub refused_by : {n : Option ℕ} (k : ℕ) → n ≡ number_of (lowest_row rows) → n ≡ Some k → enrolment_refused k (after_refusal k m x) ≡ end_entity_checked (lowest_row rows) x d m
+  unfolding end_entity_checked
   refused_by k e z = rw (stops_at (lowest_row rows) k (sym z ∙ e))
 
   pub passes_it : {n : Option ℕ} → n ≡ number_of (lowest_row rows) → n ≡ None → lowest_row rows ≡ pass

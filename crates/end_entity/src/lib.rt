@@ -10,7 +10,7 @@ ghost use Rattle.protocol.specs.Bytes.{as_nonce};
 ghost use Rattle.protocol.specs.Message.{Fields, fields_of, status_or0};
 ghost use Rattle.protocol.specs.Refusals.{pass, lowest_row};
 ghost use Rattle.protocol.specs.EndEntityRows.{end_entity_rows};
-ghost use Rattle.protocol.specs.EndEntity.{end_entity_start, end_entity_checked, end_entity_message, end_entity_time_out};
+ghost use Rattle.protocol.specs.EndEntity.{end_entity_start, after_refusal, end_entity_checked, end_entity_message, end_entity_time_out};
 
 use crate::answers::{confirm, done, moved, refused, started, unread};
 use crate::rows::lowest_refusal;
@@ -36,6 +36,14 @@ pub fn start(kind: u8, id: TransactionId, nonce: FreshNonce) -> EndEntityAnswer
         };
     }
     refused(32, Enrolment::none())
+}
+
+// The enrolment after a refused message, as it was: the one place for an exception.
+#[tactic(auto, unfolding(protocol::specs::EndEntity::after_refusal))]
+fn after_refusal(number: u8, bytes: &[u8], m: Message, enrolment: Enrolment) -> Enrolment
+    ensures { result ≡ after_refusal number (fields_of bytes.now m) enrolment }
+{
+    enrolment
 }
 
 // A message that no row refuses, by its kind: of any with this kind, status and senderNonce. Of another kind none comes
@@ -65,12 +73,12 @@ fn taken(
     refused(8, enrolment)
 }
 
-// A message that reads: refused by the table's lowest row, which changes nothing, or taken.
+// A message that reads: refused by the table's lowest row, or taken.
 fn checked(enrolment: Enrolment, bytes: &[u8], m: Message, input: EndEntityInput) -> EndEntityAnswer
     ensures { result ≡ end_entity_checked (lowest_row (end_entity_rows enrolment input.good (fields_of bytes.now m))) enrolment input (fields_of bytes.now m) }
 {
     if let Some(number) = lowest_refusal(enrolment, bytes, m, input.good) {
-        return refused(number, enrolment);
+        return refused(number, after_refusal(number, bytes, m, enrolment));
     }
     let answered = nonce_of(bytes, m.header.sender_nonce);
     let status = status_or_0(m.body.entry);

@@ -50,7 +50,6 @@ fn bad_status(kind: u8, entries: usize, status: u32) -> bool
 }
 
 // 20
-#[tactic(auto, unfolding(protocol::specs::Message::is_response))]
 fn not_awaited(kind: u8, state: EnrolmentState) -> bool
     ensures { result ≡ (is_response kind && not (is_waiting state) || eqb kind pki_conf && not (is_confirming state) || eqb kind error_kind && not (is_waiting state || is_confirming state)) }
 {

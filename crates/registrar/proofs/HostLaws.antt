@@ -1,8 +1,8 @@
 -- The host's steps by the slot, as the code has them: no slot, a state that does not allow it, and done.
 use Prim.Native.Nat.{ℕ}
 use mathlib.Core.List.{List}
-use mathlib.Core.Bool.{Bool, true, false}
-use mathlib.Core.Option.{Option, none, some}
+use mathlib.Core.Bool.{Bool, true}
+use mathlib.Core.Option.{Option, some}
 use mathlib.Core.Path.{◌≡◌}
 use lib.ListN.{set}
 use Rattle.protocol.specs.declared.TransactionId.{TransactionId}
@@ -14,7 +14,7 @@ use Rattle.protocol.specs.declared.RegistrarAnswer.{RegistrarAnswer}
 use Rattle.protocol.specs.declared.TransactionState.{TransactionState}
 use Rattle.protocol.specs.Bytes.{nonce_from}
 use Rattle.protocol.specs.Table.{slot_of}
-use Rattle.protocol.specs.Registrar.{host_step, refused_quietly, done_quietly, responded, respond, replaced}
+use Rattle.protocol.specs.Registrar.{host_step, done_quietly, responded, respond, replaced}
 use Rattle.registrar.specs.Steps.{response_answer}
 use Rattle.registrar.proofs.SlotLaws.{slot-set}
 
@@ -32,13 +32,6 @@ module _ (t : TransactionTable) (i : TransactionId) where
   pub sending : (r : Transaction) (s : TransactionState) (status : ℕ) (n : FreshNonce) (h : Hash) → response_answer t p r i s status n h ≡ respond t i r s status n h
   sending r s status n h = rw (slot-set rs i (responded r s (nonce_from n) h))
 
--- the four ends of a step
-module _ (t : TransactionTable) (f : Option Transaction) (ok : Transaction → Bool) (g : Transaction → RegistrarAnswer) where
-  pub no_slot : f ≡ none → refused_quietly 30 t ≡ host_step f t ok g
-  no_slot e = rw e
-
-  pub not_allowed : {r : Transaction} {b : Bool} → f ≡ some r → b ≡ ok r → b ≡ false → refused_quietly 31 t ≡ host_step f t ok g
-  not_allowed e o n = rw (e, ← o, n)
-
-  pub allowed : {r : Transaction} {b : Bool} → f ≡ some r → b ≡ ok r → b ≡ true → g r ≡ host_step f t ok g
-  allowed e o y = rw (e, ← o, y)
+-- the end of a step that is allowed
+pub allowed : (t : TransactionTable) (f : Option Transaction) (ok : Transaction → Bool) (g : Transaction → RegistrarAnswer) {r : Transaction} {b : Bool} → f ≡ some r → b ≡ ok r → b ≡ true → g r ≡ host_step f t ok g
+allowed t f ok g e o y = rw (e, ← o, y)

@@ -32,10 +32,6 @@ pub found_is : (f : Option Transaction) (p : ℕ) → found_by (found_in f p) �
 found_is none p = refl
 found_is (some r) p = refl
 
-pub found_none : (f : Option Transaction) (p : ℕ) → found_in f p ≡ None → f ≡ none
-found_none none p e = refl
-found_none (some r) p e = cc
-
 pub found_some : (f : Option Transaction) (p : ℕ) (s : Slot) (r : Transaction) → found_in f p ≡ Some (s, r) → (f ≡ some r) × (s ≡ record { 0 = p })
 found_some none p s r e = cc
 found_some (some q) p s r e = let z : (record { 0 = p }, q) ≡ (s, r) = cc in (ap (λ (x : Slot × Transaction). some x.1) z, sym (ap (λ (x : Slot × Transaction). x.0) z))

@@ -1,5 +1,5 @@
 -- The table by slots, as the code has it: what an id names stands in its slot, and is stored there; so with the lowest free slot.
-use Prim.Native.Nat.{ℕ, zero, suc, ◌+◌, ◌<◌, ◌≤◌}
+use Prim.Native.Nat.{ℕ, suc, ◌+◌, ◌<◌, ◌≤◌}
 use mathlib.Core.List.{List, [], ◌∷◌}
 use mathlib.Core.Bool.{Bool, true, false, cond, not, true≢false}
 use mathlib.Core.Option.{none, some}
@@ -16,23 +16,6 @@ use Rattle.protocol.specs.declared.TransactionId.{TransactionId}
 use Rattle.protocol.specs.declared.Transaction.{Transaction}
 use Rattle.protocol.specs.Table.{is_free, is_for, lookup, slot_of, replace, has_free_slot, free_slot, put}
 use Rattle.registrar.specs.Steps.{found_in, place_in}
-
--- ## Elements past the end
-
-pub get_d_past : {A : Type 0} (l : List A) (i : ℕ) (d : A) → length l ≤ i → get_or l i d ≡ d
-get_d_past [] i d h = refl
-get_d_past (x ∷ xs) zero d h = absurd (omega arith)
-get_d_past (x ∷ xs) (suc i) d h = get_d_past xs i d (le_of_suc-le-suc h)
-
-pub get_d_any : {A : Type 0} (l : List A) (i : ℕ) (d e : A) → i < length l → get_or l i d ≡ get_or l i e
-get_d_any [] i d e h = absurd (omega arith)
-get_d_any (x ∷ xs) zero d e h = refl
-get_d_any (x ∷ xs) (suc i) d e h = get_d_any xs i d e (le_of_suc-le-suc h)
-
-pub set_past : {A : Type 0} (l : List A) (i : ℕ) (x : A) → length l ≤ i → set l i x ≡ l
-set_past [] i x h = refl
-set_past (y ∷ ys) zero x h = absurd (omega arith)
-set_past (y ∷ ys) (suc i) x h = rw (set_past ys i x (le_of_suc-le-suc h))
 
 -- ## The slot that an id names
 

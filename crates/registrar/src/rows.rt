@@ -174,20 +174,15 @@ fn entry_refusal(message: &[u8], m: Message, held: Transaction) -> Option<u8>
     let entry = m.body.entry;
     let status = status_or_0(entry);
     let version = m.header.version;
-    let nonce = m.header.sender_nonce;
+    let hash = other_hash(message, entry.cert_hash, held);
+    let late = not_taken(message, m.header.sender_nonce, held, status);
     first_row(&[
         (15, not_one(kind, n)),
         (16, other_request(kind, n, entry.number, held.kind)),
         (17, early_hash_alg(kind, n, entry.hash_alg, version)),
         (18, of_one(kind, n, other_status(status))),
-        (
-            19,
-            of_one(kind, n, other_hash(message, entry.cert_hash, held)),
-        ),
-        (
-            20,
-            of_cert_conf(kind, not_taken(message, nonce, held, status)),
-        ),
+        (19, of_one(kind, n, hash)),
+        (20, of_cert_conf(kind, late)),
     ])
 }
 
@@ -201,9 +196,6 @@ pub(crate) fn later_refusal(
 ) -> Option<u8>
     ensures { result ≡ number_of (lowest_row (later_rows table.transactions (found_by found) verdict (get_or (found_by found) free_transaction) (fields_of message.now m))) }
 {
-    transaction_refusal(table, message, m, found, verdict).or_else(|| entry_refusal(
-        message,
-        m,
-        held_or_free(found),
-    ))
+    let number = transaction_refusal(table, message, m, found, verdict);
+    number.or_else(|| entry_refusal(message, m, held_or_free(found)))
 }

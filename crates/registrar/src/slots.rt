@@ -21,7 +21,7 @@ pub(crate) fn find(table: TransactionTable, id: TransactionId) -> Found
     ensures { result ≡ found_in (lookup table.transactions id) (slot_of table.transactions id) }
 {
     let place = table.transactions.iter().position(|t| is_for(id, *t))?;
-    Some((Slot(place), table.transactions[place]))
+    Some((Slot(place), transaction_at(table, Slot(place))))
 }
 
 // What was found; a free transaction where there is none.

@@ -54,7 +54,7 @@ fn open(
 ) -> RegistrarAnswer
     ensures { result ≡ done_quietly (free_slot table.transactions) (put table.transactions (asked_transaction id board kind taken)) }
 {
-    // Where no slot is free, none comes here (11).
+    // Where no slot is free none comes here (11); the definition `free_slot` then gives the number of slots.
     let Some(slot) = free_slot(table) else {
         return done_quietly(Slot(TransactionTable::CAPACITY), table);
     };

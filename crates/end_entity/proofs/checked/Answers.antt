@@ -2,14 +2,14 @@
 use Rattle.std.proofs.Common.{◌∙◌, ap, sym, refl}
 use Rattle.protocol.specs.Message.{fields_of}
 use Rattle.protocol.specs.Refusals.{LowestRow}
-use Rattle.protocol.specs.EndEntity.{end_entity_checked}
+use Rattle.protocol.specs.EndEntity.{enrolment_refused, end_entity_checked}
 use Rattle.end_entity.proofs.CheckedLaws.{refused_by, passes_it, answered}
 use Rattle.end_entity.proofs.checked.Goals as goal
 
 pub returns-in-Some : goal.returns-in-Some
 unfolding fields_of
 returns-in-Some c =
-    c.refused.ensures ∙ refused_by c.args.enrolment c.args.input (fields_of c.args.bytes.now c.args.m) c.in-Some.number c.lowest_refusal.ensures c.in-Some.is
+    c.refused.ensures ∙ ap (enrolment_refused c.in-Some.number) c.after_refusal.ensures ∙ refused_by c.args.enrolment c.args.input (fields_of c.args.bytes.now c.args.m) c.in-Some.number c.lowest_refusal.ensures c.in-Some.is
 
 pub returns : goal.returns
 unfolding fields_of

@@ -17,6 +17,6 @@ returns c =
     let f = found_by c.args.found in
     let r = get_or f free_transaction in
     let m = fields_of c.args.message.now c.args.m in
-    or_else_is c.transaction_refusal.result c.or_else.result (number_of (lowest_row (entry_rows r m))) (λ e. search rules) c.or_else.ensures
-    ∙ ap (λ (o : Option ℕ). option_or o (number_of (lowest_row (entry_rows r m)))) c.transaction_refusal.ensures
+    or_else_is c.transaction_refusal-number.result c.or_else.result (number_of (lowest_row (entry_rows r m))) (λ e. search rules) c.or_else.ensures
+    ∙ ap (λ (o : Option ℕ). option_or o (number_of (lowest_row (entry_rows r m)))) c.transaction_refusal-number.ensures
     ∙ number_append (transaction_rows c.args.table.transactions f c.args.verdict r m) (entry_rows r m)

@@ -15,4 +15,4 @@ pub returns : goal.returns
 returns c =
     let rs = c.args.table.transactions in
     let at = position_from_yields_List (is_for c.args.id) _ _ c.position.result c.position.ensures.ran (YieldsList-from_slice rs cc) (λ x b q k. search (rules, tests)) in
-    (finds rs c.args.id c.position.result at).1 c.in_ok-place.place _ c.in_ok-place.was
+    rw c.transaction_at.ensures ((finds rs c.args.id c.position.result at).1 c.in_ok-place.place _ c.in_ok-place.was)
