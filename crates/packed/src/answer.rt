@@ -2,7 +2,7 @@
 ghost use Rattle.std.specs.Prelude.{◌≡◌, ◌≤◌, length};
 ghost use Rattle.packed.specs.Bytes.{Placed, fits_at, pack_at};
 ghost use Rattle.packed.specs.Places.{answer_fault_at, answer_own_at, fault_part_bytes};
-ghost use Rattle.packed.specs.Answer.{pack_outcome, pack_fault, slot_byte, registrar_answer_bytes, pack_registrar_answer, end_entity_answer_bytes, pack_end_entity_answer};
+ghost use Rattle.packed.specs.Answer.{outcome_number, pack_outcome, pack_fault, slot_byte, registrar_answer_bytes, pack_registrar_answer, end_entity_answer_bytes, pack_end_entity_answer};
 
 use crate::bytes::{put, put_flag};
 use crate::outgoing::{failure_number, put_outgoing};
@@ -14,15 +14,25 @@ pub const REGISTRAR_ANSWER_BYTES: usize = places::REGISTRAR_END;
 
 pub const END_ENTITY_ANSWER_BYTES: usize = places::END_ENTITY_END;
 
-// How the call ended, as the C interface has it: the code, the refusal's number (0: none) and the bit (255: none).
+// 0 done, 1 again, 2 refused: the C interface.
+pub fn outcome_number(o: Outcome) -> u8
+    ensures { result ≡ outcome_number o }
+{
+    match o {
+        Outcome::Done => 0,
+        Outcome::Again => 1,
+        Outcome::Refused(_, _) => 2,
+    }
+}
+
+// How the call ended: the code, the refusal's number (0: none) and the bit (255: none), as the C interface has them.
 #[tactic(auto, unfolding(crate::specs::Answer::pack_outcome))]
 fn outcome_bytes(o: Outcome) -> [u8; 3]
     ensures { result ≡ pack_outcome o }
 {
     match o {
-        Outcome::Done => [0, 0, 255],
-        Outcome::Again => [1, 0, 255],
-        Outcome::Refused(n, f) => [2, n, failure_number(f)],
+        Outcome::Done | Outcome::Again => [outcome_number(o), 0, 255],
+        Outcome::Refused(n, f) => [outcome_number(o), n, failure_number(f)],
     }
 }
 
