@@ -61,6 +61,7 @@ fn argument<const N: usize>(bytes: &[u8]) -> Result<[u8; N], BoundaryFault>
     unpack(bytes).ok_or(BoundaryFault::Argument)
 }
 
+// One function for each of protocol's types: they share no trait.
 pub(crate) fn id_in(bytes: &[u8]) -> Result<TransactionId, BoundaryFault>
     ensures { result ≡ cond (is_some (unpack 16 bytes.now)) (Ok (id_of bytes.now)) (Err Argument) }
 {
@@ -103,7 +104,8 @@ fn outcome_code(o: Outcome) -> u64
     u64::from(outcome_number(o))
 }
 
-// The registrar's answer into the lent bytes, unless there is none or no room for it.
+// The registrar's answer into the lent bytes, unless there is none or no room for it. Each call's own three lines, not one function that takes
+// room and packing as closures: that is no plainer.
 pub(crate) fn registrar_answered(
     table: &mut [u8],
     answer: &mut [u8],

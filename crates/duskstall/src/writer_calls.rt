@@ -38,6 +38,7 @@ pub fn duskstall_write(
         Some(order) if given.len() == GIVEN => {
             written_number(write(order, spans_of(version, given), source, buffer))
         }
+        // the C interface: the number of BoundaryFault::Argument
         _ => not_written(252),
     }
 }

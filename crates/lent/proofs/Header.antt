@@ -1,6 +1,6 @@
 -- Demand 3 at the places of the C header: what it claims holds of the bytes.
 use Rattle.std.specs.Prelude.{is_some}
-use Prim.Native.Nat.{ℕ, ◌-◌, ◌<◌}
+use Prim.Native.Nat.{ℕ, ◌<◌}
 use mathlib.Core.List.{List, [], ◌∷◌}
 use mathlib.Core.Bool.{true}
 use mathlib.Core.Option.{some}

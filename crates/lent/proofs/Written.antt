@@ -1,33 +1,29 @@
 -- What the exported call writes is a message issued by the end whose answer held the order.
 use Rattle.std.specs.Prelude.{Ok, Err, Some, None, is_some, unwrap_or}
-use Prim.Native.Nat.{ℕ, ◌+◌, ◌*◌, ◌-◌, ◌<◌, ◌≤◌, ◌^◌}
-use mathlib.Core.List.{List, [], ◌∷◌, ◌++◌}
+use Prim.Native.Nat.{ℕ, ◌+◌, ◌<◌, ◌≤◌, ◌^◌}
+use mathlib.Core.List.{List, ◌++◌}
 use mathlib.Core.Bool.{Bool, true, false, cond, ◌&&◌, true≢false}
-use mathlib.Core.Option.{Option, none, some}
 use mathlib.Core.Path.{◌≡◌, refl, sym, ◌∙◌, ap, subst}
 use mathlib.Core.Logic.{◌≢◌}
 use native.Mathlib.Omega.{arith}
 use borrow.Author.Tests.{eq-eqb, eqb-true, eqb-false}
-use lib.ListN.{length, take, drop, get_or, length-append, length-drop, take-append-drop, get_or-append}
+use lib.ListN.{length, take, drop, get_or, length-drop, take-append-drop, get_or-append}
 use lib.Seq.{take-append_seam, drop-append_seam, take-append-le, drop-append-le}
 use lib.Dec.{eqb, lit<, lit≤}
-use Rattle.der.proofs.Auto.{and_left, and_right}
+use Rattle.der.proofs.Auto.{and_right}
 use Rattle.grammar.specs.declared.Span.{Span}
-use Rattle.message.specs.Read.{max_message, reading_of}
-use Rattle.message.specs.Types.{Reading}
+use Rattle.message.specs.Read.{reading_of}
 use Rattle.protocol.specs.declared.Outgoing.{Outgoing}
 use Rattle.protocol.specs.Bytes.{zeros, bytes_of}
 use Rattle.protocol.specs.Message.{is_present, optional_part}
-use Rattle.protocol.specs.Run.{End, World}
-use Rattle.protocol.specs.Agreement.{Issued, IssuedReading}
+use Rattle.protocol.specs.Run.{World}
+use Rattle.protocol.specs.Agreement.{Issued}
 use Rattle.packed.specs.Bytes.{AllBytes, part, four_at, two_at}
 use Rattle.packed.specs.Places.{id_bytes, nonce_bytes, hash_bytes, outgoing_kind_at, outgoing_id_at, outgoing_sender_nonce_at, outgoing_has_recip_nonce_at, outgoing_recip_nonce_at, outgoing_has_status_at, outgoing_status_at, outgoing_hash_at, outgoing_failure_at, outgoing_has_number_at, outgoing_number_at}
 use Rattle.packed.specs.Outgoing.{failure_of, outgoing_bytes, outgoing_of, unpack_outgoing, outgoing_held}
 use Rattle.packed.proofs.Parts.{part_length}
-use Rattle.encoding.specs.Given.{Given}
 use Rattle.encoding.specs.Message.{encode}
-use Rattle.encoding.specs.ReadBack.{Bytes, BytesIf, GivenTyped, OrderTyped, ReadsBack}
-use Rattle.encoding.specs.Write.{refusal_of}
+use Rattle.encoding.specs.ReadBack.{Bytes, BytesIf, GivenTyped, OrderTyped}
 use Rattle.encoding.specs.WriteRules.{RefusalRules}
 use Rattle.encoding.proofs.Inverse.{bytes-part}
 use Rattle.encoding.proofs.Orders.{orders_fit}
@@ -42,8 +38,8 @@ use Rattle.writer.specs.WriteRules.{WriteRules}
 use Rattle.writer.proofs.WriteRules.{writes}
 use Rattle.duskstall.specs.Write.{not_written, written_number, write_args, write_number, write_buffer}
 use Rattle.lent.specs.Lent.{LentEvent, events_of, lent_after, lent_beginning, made}
-use Rattle.lent.specs.Header.{Sent, IssuedBytes}
-use Rattle.lent.specs.Written.{AllGivenInPlace, RightLengths, in_high_bits, given_in, WriteAnswers, AllWriteAnswers, WroteBytes, BytesWritten, HandedOutFits}
+use Rattle.lent.specs.Header.{IssuedBytes}
+use Rattle.lent.specs.Written.{AllGivenInPlace, RightLengths, in_high_bits, WriteAnswers, AllWriteAnswers, BytesWritten, HandedOutFits}
 use Rattle.lent.proofs.Sent.{sent-issued, issued-back}
 use Rattle.lent.proofs.Theorem.{lent_runs}
 
