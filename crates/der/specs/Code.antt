@@ -24,21 +24,6 @@ fit_of n start len = cond (leb (start + len) n) (len * 8 + start) 0
 unfoldable pub broken_rule : List ℕ → ℕ
 broken_rule s = cond (eqb (length s) 0) 2 (cond (tag_ok (byte s 0)) 2 1)
 
--- ## Content
-
--- an arc begins at the first byte, and after each byte below 80
-unfoldable pub begins : List ℕ → ℕ → Bool
-begins c i = cond (eqb i 0) true (ltb (byte c (i - 1)) 128)
-
--- byte i is 80
-abbrev pub at80 : List ℕ → ℕ → Bool
-at80 c i = eqb (byte c i) 128
-
--- some byte is 80: if none is, the last byte decides (`arcs_plain` in proofs/ContentLaws.antt)
-unfoldable pub has80 : List ℕ → Bool
-has80 [] = false
-has80 (x ∷ c) = eqb x 128 || has80 c
-
 -- ## Elements
 
 -- What an element with this tag and content is, wherever it stands: 0 a primitive one, 1 a constructed one,
