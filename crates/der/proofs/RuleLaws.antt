@@ -17,8 +17,7 @@ use Rattle.der.specs.declared.element.Check.TheVariants.{Sound, Fault}
 use Rattle.der.specs.Head.{tag_ok, inside, length81, length82, length_of, head_of}
 use Rattle.der.specs.Content.{content_ok}
 use Rattle.der.specs.Element.{max_depth, constructed, form_ok, judge, element_of, size_of, and_then, with_content, each_element, content_at, check_at, check, is_sound}
-use Rattle.der.specs.Code.{faults, answer_of}
-use Rattle.der.proofs.HeadLaws.{cond-case, unpacked}
+use Rattle.der.proofs.HeadLaws.{cond-case}
 
 abbrev pub Rule : ℕ → Type 0
 Rule rule = (1 ≤ rule) × (rule ≤ 4)
@@ -99,33 +98,3 @@ content_rule (suc d) b s = run_rule (content_at d) (content_rule d) d 0 b s
 pub check_rule : (s : List ℕ) {at : Offset} {rule : ℕ} → check s ≡ Fault at rule → Rule rule
 unfolding check check_at CheckRule
 check_rule s e = subst CheckRule e (run_rule (content_at max_depth) (content_rule max_depth) max_depth 0 0 s)
-
-check_rules : (d b : ℕ) (s : List ℕ) → CheckRule (check_at d b s)
-unfolding check_at CheckRule
-check_rules d b s = run_rule (content_at d) (content_rule d) d 0 b s
-
-sound_of : (end : ℕ) (v : Check) {r : ℕ} → r ≡ answer_of end v → r < faults → v ≡ Sound
-unfolding answer_of
-sound_of end Sound e h = refl
-sound_of end (Fault at rule) e h = absurd (omega arith)
-
-fault_of_lem : (end : ℕ) (v : Check) → CheckRule v → end < faults → {r : ℕ} → r ≡ answer_of end v → faults ≤ r → v ≡ Fault (record { 0 = (r - faults) / 8 }) ((r - faults) % 8)
-unfolding answer_of CheckRule
-fault_of_lem end Sound w h e n = absurd (omega arith)
-fault_of_lem end (Fault at rule) w h {r} e n =
-    let u = unpacked rule at.0 {p = r - faults} (omega arith) (omega arith) in rw (u.0, u.1) refl
-
-test_of : (end : ℕ) (v : Check) → end < faults → {r : ℕ} → r ≡ answer_of end v → ltb r faults ≡ is_sound v
-unfolding answer_of
-test_of end Sound h {r} e = lt-ltb r faults (omega arith)
-test_of end (Fault at rule) h {r} e = le-ltb r faults (omega arith)
-
--- what the number of a check says
-pub answer_sound : (end d b : ℕ) (s : List ℕ) {r : ℕ} → r ≡ answer_of end (check_at d b s) → r < faults → check_at d b s ≡ Sound
-answer_sound end d b s e h = sound_of end (check_at d b s) e h
-
-pub answer-fault : (end d b : ℕ) (s : List ℕ) {r : ℕ} → end < faults → r ≡ answer_of end (check_at d b s) → faults ≤ r → check_at d b s ≡ Fault (record { 0 = (r - faults) / 8 }) ((r - faults) % 8)
-answer-fault end d b s h e n = fault_of_lem end (check_at d b s) (check_rules d b s) h e n
-
-pub answer_test : (end d b : ℕ) (s : List ℕ) {r : ℕ} → end < faults → r ≡ answer_of end (check_at d b s) → ltb r faults ≡ is_sound (check_at d b s)
-answer_test end d b s h e = test_of end (check_at d b s) h e

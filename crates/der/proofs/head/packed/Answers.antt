@@ -1,18 +1,14 @@
-use Rattle.der.proofs.Auto.{tests, told}
-use Rattle.der.specs.Head.{head_of}
+use mathlib.Core.Path.{sym}
+use native.Mathlib.Omega.{arith}
+use Rattle.der.proofs.HeadLaws.{whole_in}
+use Rattle.der.proofs.OneForm.{one_form}
 use Rattle.der.proofs.head.packed.Goals as goal
 
-pub returns-then-s-eq0 : goal.returns-then-s-eq0
-unfolding head_of
-returns-then-s-eq0 c =
-    search tests
+-- a length is below 65,536
+pub overflow_mul-result : goal.overflow_mul-result
+overflow_mul-result c =
+    omega (arith, (one_form c.args.s.now (λ i. omega (arith, c.type_inv.s i)) (sym c.in-Whole.ensures)).2)
 
-pub returns-then-tag_ok : goal.returns-then-tag_ok
-unfolding head_of
-returns-then-tag_ok c =
-    search (tests, ← c.read_length.ensures, told c.tag_ok.ensures c.if-tag_ok.true)
-
-pub returns-else-tag_ok : goal.returns-else-tag_ok
-unfolding head_of
-returns-else-tag_ok c =
-    search (tests, told c.tag_ok.ensures c.if-tag_ok.false)
+pub overflow_add-result : goal.overflow_add-result
+overflow_add-result c =
+    omega (arith, (one_form c.args.s.now (λ i. omega (arith, c.type_inv.s i)) (sym c.in-Whole.ensures)).2, whole_in c.args.s.now c.read.ensures c.in-Whole.is)
