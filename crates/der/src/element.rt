@@ -1,11 +1,12 @@
 // Whole elements with all that they hold: point 3 of document 01, "DER as we take it", over the other three.
-ghost use Rattle.std.specs.Prelude.{◌≡◌, ◌≤◌, length, drop};
-ghost use Rattle.der.specs.Content.{content_ok};
+ghost use Rattle.std.specs.Prelude.{◌≡◌, ◌≤◌, length, drop, IfOk};
+ghost use Rattle.der.specs.Head.{head_of};
 ghost use Rattle.der.specs.Element.{form_ok, element_of, check_at, check, fills, is_element};
+ghost use Rattle.der.specs.Code.{kind_of, rule_of, outcome};
 
 use crate::Offset;
 use crate::content::content_ok;
-use crate::head::{self, Head};
+use crate::head::{self, Head, tag_ok};
 
 // At most so many elements deep, the message being depth 1.
 pub const MAX_DEPTH: u8 = 16;
@@ -36,41 +37,79 @@ fn form_ok(tag: u8) -> bool
     matches!(tag, 0x00..=0x0F | 0x12..=0x1F | 0x30 | 0x31 | 0x40..)
 }
 
-// The element that `s` begins with, by itself, where `depth` levels are left.
-#[tactic(auto, unfolding(crate::specs::Element::element_of, crate::specs::Element::judge), using(crate::proofs::HeadLaws::whole_in))]
-fn first_element(s: &[u8], depth: u8) -> Element
-    ensures { result ≡ element_of depth s.now }
+// What an element is by its tag and content, wherever it stands.
+#[derive(Clone, Copy)]
+enum Kind {
+    Primitive,
+    Constructed,
+    Faulty,
+}
+
+// The most frequent tags come first.
+#[tactic(auto, unfolding(crate::specs::Code::kind_of, crate::specs::Head::tag_ok, crate::specs::Element::form_ok))]
+fn kind_with(tag: u8, c: &[u8]) -> Kind
+    ensures { result ≡ kind_of tag c.now }
 {
-    match head::read(s) {
-        Head::Bad(rule) => Element::Faulty(rule),
-        Head::Whole { tag, .. } if depth == 0 || !form_ok(tag) => Element::Faulty(3),
-        Head::Whole { tag, start, len } if tag / 32 % 2 == 1 => Element::Constructed { start, len },
-        Head::Whole { tag, start, len } if content_ok(tag, &s[start..start + len]) => Element::Primitive(start + len),
-        Head::Whole { .. } => Element::Faulty(4),
+    match tag {
+        0x30 | 0x31 => Kind::Constructed,
+        _ if !tag_ok(tag) || !form_ok(tag) => Kind::Faulty,
+        _ if tag / 32 % 2 == 1 => Kind::Constructed,
+        _ if content_ok(tag, c) => Kind::Primitive,
+        _ => Kind::Faulty,
     }
 }
 
-// The elements of `m` from `from` on, where `depth` levels are left. What an element holds is checked by a call, a level deeper.
-fn elements(m: &[u8], from: usize, depth: u8) -> Check
-    requires { from ≤ length m.now }
-    ensures { result ≡ check_at depth from (drop from m.now) }
+// The rule that the faulty element at the start of `s` breaks.
+#[cold]
+#[inline(never)]
+#[tactic(auto, unfolding(crate::specs::Code::rule_of))]
+fn rule_of(s: &[u8], depth: u8) -> u8
+    ensures { result ≡ rule_of depth (head_of s.now) }
 {
-    let mut i = from;
-    while i < m.len() {
-        match first_element(&m[i..], depth) {
-            Element::Primitive(size) => i += size,
+    match head::read(s) {
+        Head::Bad(rule) => rule,
+        Head::Whole { tag, .. } if depth == 0 || !form_ok(tag) => 3,
+        Head::Whole { .. } => 4,
+    }
+}
+
+// The element that `s` begins with, by itself, where `depth` levels are left. Most are sound: which rule is broken is asked last.
+#[tactic(auto, using(crate::proofs::HeadLaws::length_whole_in, crate::proofs::KindLaws::no_level, crate::proofs::KindLaws::no_length))]
+fn first_element(s: &[u8], depth: u8) -> Element
+    ensures { result ≡ element_of depth s.now }
+{
+    if depth == 0 {
+        return Element::Faulty(rule_of(s, depth));
+    }
+    let Head::Whole { tag, start, len } = head::read_length(s) else {
+        return Element::Faulty(rule_of(s, depth));
+    };
+    match kind_with(tag, &s[start..start + len]) {
+        Kind::Primitive => Element::Primitive(start + len),
+        Kind::Constructed => Element::Constructed { start, len },
+        Kind::Faulty => Element::Faulty(rule_of(s, depth)),
+    }
+}
+
+// The elements of `m` from `at` on, where `depth` levels are left: `at` goes to the end of `m`, or stays at the first fault, whose rule
+// is the error. What an element holds is checked by a call, a level deeper.
+fn elements(m: &[u8], at: &mut usize, depth: u8) -> Result<(), u8>
+    requires { at.old ≤ length m.now }
+    ensures checked { outcome result at.new ≡ check_at depth at.old (drop at.old m.now) }
+    ensures ends { IfOk result (λ _. at.new ≡ length m.now) }
+{
+    while *at < m.len() {
+        match first_element(&m[*at..], depth) {
+            Element::Primitive(size) => *at += size,
             Element::Constructed { start, len } => {
-                let content = i + start;
-                let end = content + len;
-                match elements(&m[..end], content, depth - 1) {
-                    Check::Sound => i = end,
-                    fault => return fault,
-                }
+                *at += start;
+                let end = *at + len;
+                elements(&m[..end], at, depth - 1)?;
             }
-            Element::Faulty(rule) => return Check::Fault(Offset(i), rule),
+            Element::Faulty(rule) => return Err(rule),
         }
     }
-    Check::Sound
+    Ok(())
 }
 
 // Whether all of `s` is whole elements, the first at depth 1; or the first fault.
@@ -78,7 +117,11 @@ fn elements(m: &[u8], from: usize, depth: u8) -> Check
 pub fn check_elements(s: &[u8]) -> Check
     ensures { result ≡ check s.now }
 {
-    elements(s, 0, MAX_DEPTH)
+    let mut at = 0;
+    match elements(s, &mut at, MAX_DEPTH) {
+        Ok(()) => Check::Sound,
+        Err(rule) => Check::Fault(Offset(at), rule),
+    }
 }
 
 #[tactic(auto, unfolding(crate::specs::Element::fills), using(crate::proofs::HeadLaws::whole_in))]
@@ -93,5 +136,5 @@ fn fills(s: &[u8]) -> bool
 pub fn is_element(s: &[u8], depth: u8) -> bool
     ensures { result ≡ is_element depth s.now }
 {
-    fills(s) && matches!(elements(s, 0, depth), Check::Sound)
+    fills(s) && elements(s, &mut 0, depth).is_ok()
 }

@@ -1,6 +1,6 @@
 // Tag and length of an element: points 1 and 2 of document 01, "DER as we take it".
 ghost use Rattle.std.specs.Prelude.{◌≡◌, ◌+◌, ◌^◌, ◌<◌};
-ghost use Rattle.der.specs.Head.{tag_ok, inside, head_of};
+ghost use Rattle.der.specs.Head.{tag_ok, inside, length_of, head_of};
 ghost use Rattle.der.specs.Code.{packed_of};
 
 // An element whose content is `len` bytes from `start`, or the rule that its tag and length break.
@@ -31,14 +31,12 @@ fn inside(n: usize, tag: u8, start: usize, len: usize) -> Head
     }
 }
 
-// Tag and length of the element that `s` begins with; `s` ends where the parent's content does.
-#[tactic(auto, unfolding(crate::specs::Head::head_of, crate::specs::Head::length_of, crate::specs::Head::length81, crate::specs::Head::length82))]
-pub fn read(s: &[u8]) -> Head
-    ensures { result ≡ head_of s.now }
+// The length alone, the tag not looked at: where the content starts and how long it is, in each of the three forms.
+#[tactic(auto, unfolding(crate::specs::Head::length_of, crate::specs::Head::length81, crate::specs::Head::length82))]
+pub(crate) fn read_length(s: &[u8]) -> Head
+    ensures { result ≡ length_of s.now }
 {
     match s {
-        [] => Head::Bad(2),
-        [tag, ..] if !tag_ok(*tag) => Head::Bad(1),
         // below 128 the length is the one byte
         [tag, len, ..] if *len < 128 => inside(s.len(), *tag, 2, usize::from(*len)),
         // 81 xx: 128 to 255
@@ -46,6 +44,18 @@ pub fn read(s: &[u8]) -> Head
         // 82 xx xx: 256 up
         [tag, 0x82, high, low, ..] if *high != 0 => inside(s.len(), *tag, 4, usize::from(*high) * 256 + usize::from(*low)),
         _ => Head::Bad(2),
+    }
+}
+
+// Tag and length of the element that `s` begins with; `s` ends where the parent's content does.
+#[tactic(auto, unfolding(crate::specs::Head::head_of))]
+pub fn read(s: &[u8]) -> Head
+    ensures { result ≡ head_of s.now }
+{
+    match s {
+        [] => Head::Bad(2),
+        [tag, ..] if tag_ok(*tag) => read_length(s),
+        _ => Head::Bad(1),
     }
 }
 

@@ -8,9 +8,9 @@ use Rattle.der.proofs.element.+elements.Given as goal
 abbrev pub decreases-elements : goal.decreases-elements
 decreases-elements l = l.depth
 
-abbrev pub invariant-loop-i : goal.invariant-loop-i
-invariant-loop-i l =
-    (l.i ≤ length l.m) × (check_at l.depth l.from (drop l.from l.m) ≡ check_at l.depth l.i (drop l.i l.m))
+abbrev pub invariant-loop-at : goal.invariant-loop-at
+invariant-loop-at l =
+    (l.at ≤ length l.m) × (check_at l.depth l.initial.at (drop l.initial.at l.m) ≡ check_at l.depth l.at (drop l.at l.m))
 
-abbrev pub decreases-loop-i : goal.decreases-loop-i
-decreases-loop-i l = length l.m - l.i
+abbrev pub decreases-loop-at : goal.decreases-loop-at
+decreases-loop-at l = length l.m - l.at
