@@ -18,9 +18,12 @@ use Rattle.der.specs.declared.element.Element.{Element}
 use Rattle.der.specs.declared.element.Element.TheVariants.{Primitive, Constructed, Faulty}
 use Rattle.der.specs.declared.element.Check.{Check}
 use Rattle.der.specs.declared.element.Check.TheVariants.{Sound, Fault}
+use Rattle.der.specs.declared.element.Run.{Run}
+use Rattle.der.specs.declared.element.Run.TheVariants.{Sound as RunSound, BadTag, BadLength, BadForm, BadContent}
 use Rattle.der.specs.Head.{head_of}
 use Rattle.der.specs.Content.{content_ok}
 use Rattle.der.specs.Element.{constructed, form_ok, judge, element_of, size_of, and_then, with_content, each_element, content_at, check_at}
+use Rattle.der.specs.Code.{check_of}
 use Rattle.der.proofs.HeadLaws.{HeadIn, head_in_lem, cond-case, cond_both}
 
 -- an element takes at least two bytes and ends inside; a constructed one has a level left
@@ -138,13 +141,13 @@ module _ (d : ℕ) (s : List ℕ) (i : ℕ) {whole : Check} (here : i < length s
       unfolding with_rest
       after_sound f = called ∙ ap with_rest f
 
-      pub at_fault : (inner ≡ Sound → ⊥) → inner ≡ whole
+      pub at_fault : (v : Run) → check_of v ≡ inner → (v ≡ RunSound → ⊥) → check_of v ≡ whole
       unfolding with_rest
-      at_fault n = go inner refl
-        where
-          go : (v : Check) → inner ≡ v → inner ≡ whole
-          go Sound q = absurd (n q)
-          go (Fault at rule) q = q ∙ sym (called ∙ ap with_rest q)
+      at_fault RunSound q n = absurd (n refl)
+      at_fault (BadTag at) q n = sym (called ∙ ap with_rest (sym q))
+      at_fault (BadLength at) q n = sym (called ∙ ap with_rest (sym q))
+      at_fault (BadForm at) q n = sym (called ∙ ap with_rest (sym q))
+      at_fault (BadContent at) q n = sym (called ∙ ap with_rest (sym q))
 
 pub check-end : (d : ℕ) (s : List ℕ) (i : ℕ) {whole : Check} → length s ≤ i → whole ≡ check_at d i (drop i s) → Sound ≡ whole
 unfolding check_at each_element

@@ -1,6 +1,6 @@
 -- Definitions that only follow the code: tests in the order in which it makes them, and what it hands from function to function. What
 -- they mean is proved in proofs/ (HeadLaws, KindLaws and ElementLaws); a reader of the paper need not look at them.
-use Rattle.std.specs.Prelude.{ℕ, ◌+◌, ◌*◌, List, Bool, not, cond, ◌&&◌, eqb, Result, Ok, Err}
+use Rattle.std.specs.Prelude.{ℕ, ◌+◌, ◌*◌, List, Bool, not, cond, ◌&&◌, eqb}
 use Rattle.der.specs.declared.Offset.{Offset}
 use Rattle.der.specs.declared.head.Head.{Head}
 use Rattle.der.specs.declared.head.Head.TheVariants.{Bad, Whole}
@@ -8,6 +8,8 @@ use Rattle.der.specs.declared.element.Check.{Check}
 use Rattle.der.specs.declared.element.Check.TheVariants.{Sound, Fault}
 use Rattle.der.specs.declared.element.Kind.{Kind}
 use Rattle.der.specs.declared.element.Kind.TheVariants.{Primitive, Constructed, Faulty}
+use Rattle.der.specs.declared.element.Run.{Run}
+use Rattle.der.specs.declared.element.Run.TheVariants.{Sound as RunSound, BadTag, BadLength, BadForm, BadContent}
 use Rattle.der.specs.Head.{tag_ok}
 use Rattle.der.specs.Content.{content_ok}
 use Rattle.der.specs.Element.{constructed, form_ok}
@@ -30,7 +32,14 @@ unfoldable pub rule_of : ℕ → Head → ℕ
 rule_of d (Bad rule) = rule
 rule_of d (Whole tag start len) = cond (form_ok tag && not (eqb d 0)) 4 3
 
--- a check by what its function answers, and the place where it ended
-abbrev pub outcome : {A : Type 0} → Result A ℕ → ℕ → Check
-outcome (Ok done) at = Sound
-outcome (Err rule) at = Fault (record { 0 = at }) rule
+-- a fault at this place
+abbrev pub fault_of : ℕ → ℕ → Check
+fault_of at rule = Fault (record { 0 = at }) rule
+
+-- what a run's check says
+abbrev pub check_of : Run → Check
+check_of RunSound = Sound
+check_of (BadTag at) = Fault at 1
+check_of (BadLength at) = Fault at 2
+check_of (BadForm at) = Fault at 3
+check_of (BadContent at) = Fault at 4

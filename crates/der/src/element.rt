@@ -1,8 +1,8 @@
 // Whole elements with all that they hold: point 3 of document 01, "DER as we take it", over the other three.
-ghost use Rattle.std.specs.Prelude.{◌≡◌, ◌≤◌, length, drop, IfOk};
+ghost use Rattle.std.specs.Prelude.{◌≡◌, ◌≤◌, length, drop};
 ghost use Rattle.der.specs.Head.{head_of};
 ghost use Rattle.der.specs.Element.{form_ok, element_of, check_at, check, fills, is_element};
-ghost use Rattle.der.specs.Code.{kind_of, rule_of, outcome};
+ghost use Rattle.der.specs.Code.{kind_of, rule_of, fault_of, check_of};
 
 use crate::Offset;
 use crate::content::content_ok;
@@ -46,16 +46,22 @@ enum Kind {
 }
 
 // The most frequent tags come first.
-#[tactic(auto, unfolding(crate::specs::Code::kind_of, crate::specs::Head::tag_ok, crate::specs::Element::form_ok))]
+#[tactic(auto, unfolding(crate::specs::Code::kind_of, crate::specs::Head::tag_ok, crate::specs::Element::form_ok, crate::specs::Content::content_ok))]
 fn kind_with(tag: u8, c: &[u8]) -> Kind
     ensures { result ≡ kind_of tag c.now }
 {
     match tag {
-        0x30 | 0x31 => Kind::Constructed,
+        0x30 => Kind::Constructed,
+        0x01..=0x0F => {
+            if content_ok(tag, c) {
+                Kind::Primitive
+            } else {
+                Kind::Faulty
+            }
+        }
         _ if !tag_ok(tag) || !form_ok(tag) => Kind::Faulty,
         _ if tag / 32 % 2 == 1 => Kind::Constructed,
-        _ if content_ok(tag, c) => Kind::Primitive,
-        _ => Kind::Faulty,
+        _ => Kind::Primitive,
     }
 }
 
@@ -91,25 +97,50 @@ fn first_element(s: &[u8], depth: u8) -> Element
     }
 }
 
-// The elements of `m` from `at` on, where `depth` levels are left: `at` goes to the end of `m`, or stays at the first fault, whose rule
-// is the error. What an element holds is checked by a call, a level deeper.
-fn elements(m: &[u8], at: &mut usize, depth: u8) -> Result<(), u8>
-    requires { at.old ≤ length m.now }
-    ensures checked { outcome result at.new ≡ check_at depth at.old (drop at.old m.now) }
-    ensures ends { IfOk result (λ _. at.new ≡ length m.now) }
+// What the check of a run of elements finds: the first fault by its rule, and where it is.
+#[derive(Clone, Copy)]
+enum Run {
+    Sound,
+    BadTag(Offset),
+    BadLength(Offset),
+    BadForm(Offset),
+    BadContent(Offset),
+}
+
+// A fault of rule 1, 2, 3 or 4.
+fn fault(rule: u8, at: usize) -> Run
+    requires { (1 ≤ rule) × (rule ≤ 4) }
+    ensures { check_of result ≡ fault_of at rule }
 {
-    while *at < m.len() {
-        match first_element(&m[*at..], depth) {
-            Element::Primitive(size) => *at += size,
+    match rule {
+        1 => Run::BadTag(Offset(at)),
+        2 => Run::BadLength(Offset(at)),
+        3 => Run::BadForm(Offset(at)),
+        _ => Run::BadContent(Offset(at)),
+    }
+}
+
+// The elements of `m` from `from` on, where `depth` levels are left. What an element holds is checked by a call, a level deeper.
+fn elements(m: &[u8], from: usize, depth: u8) -> Run
+    requires { from ≤ length m.now }
+    ensures { check_of result ≡ check_at depth from (drop from m.now) }
+{
+    let mut at = from;
+    while at < m.len() {
+        match first_element(&m[at..], depth) {
+            Element::Primitive(size) => at += size,
             Element::Constructed { start, len } => {
-                *at += start;
-                let end = *at + len;
-                elements(&m[..end], at, depth - 1)?;
+                let content = at + start;
+                let end = content + len;
+                match elements(&m[..end], content, depth - 1) {
+                    Run::Sound => at = end,
+                    found => return found,
+                }
             }
-            Element::Faulty(rule) => return Err(rule),
+            Element::Faulty(rule) => return fault(rule, at),
         }
     }
-    Ok(())
+    Run::Sound
 }
 
 // Whether all of `s` is whole elements, the first at depth 1; or the first fault.
@@ -117,10 +148,12 @@ fn elements(m: &[u8], at: &mut usize, depth: u8) -> Result<(), u8>
 pub fn check_elements(s: &[u8]) -> Check
     ensures { result ≡ check s.now }
 {
-    let mut at = 0;
-    match elements(s, &mut at, MAX_DEPTH) {
-        Ok(()) => Check::Sound,
-        Err(rule) => Check::Fault(Offset(at), rule),
+    match elements(s, 0, MAX_DEPTH) {
+        Run::Sound => Check::Sound,
+        Run::BadTag(at) => Check::Fault(at, 1),
+        Run::BadLength(at) => Check::Fault(at, 2),
+        Run::BadForm(at) => Check::Fault(at, 3),
+        Run::BadContent(at) => Check::Fault(at, 4),
     }
 }
 
@@ -136,5 +169,5 @@ fn fills(s: &[u8]) -> bool
 pub fn is_element(s: &[u8], depth: u8) -> bool
     ensures { result ≡ is_element depth s.now }
 {
-    fills(s) && elements(s, &mut 0, depth).is_ok()
+    fills(s) && matches!(elements(s, 0, depth), Run::Sound)
 }

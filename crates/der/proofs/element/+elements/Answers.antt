@@ -1,10 +1,10 @@
 -- A round of the loop: what the element there is, and that the loop goes on past it or answers its fault.
 use Prim.Native.Nat.{◌+◌}
 use native.Mathlib.Omega.{arith}
-use lib.ListN.{length}
+use lib.ListN.{length, take}
 use lib.Seq.{length-take-le}
 use mathlib.Core.Path.{◌∙◌, refl, sym}
-use Rattle.std.proofs.lemmas.Result.{err_from_is_err_and}
+use Rattle.der.proofs.RuleLaws.{faulty_rule}
 use Rattle.der.proofs.ElementLaws.{at_faulty, primitive_in, after_primitive, constructed_in, after_sound, at_fault, check-end}
 use Rattle.der.proofs.element.+elements.Goals as goal
 
@@ -20,8 +20,8 @@ pub loop-at-preserved-in-Primitive : goal.loop-at-preserved-in-Primitive
 loop-at-preserved-in-Primitive t c =
     ((primitive_in c.args.depth c.args.m.now c.loop-at.at c.loop-at-test.true c.loop-at.invariant.1 c.in-Primitive.ensures).1, after_primitive c.args.depth c.args.m.now c.loop-at.at c.loop-at-test.true c.loop-at.invariant.1 c.in-Primitive.ensures)
 
-pub overflow_add-at-in-Constructed : goal.overflow_add-at-in-Constructed
-overflow_add-at-in-Constructed t c =
+pub overflow_add-content : goal.overflow_add-content
+overflow_add-content t c =
     omega (arith, constructed_in c.args.depth c.args.m.now c.loop-at.at c.loop-at-test.true c.loop-at.invariant.1 c.in-Constructed.ensures)
 
 pub overflow_add-end : goal.overflow_add-end
@@ -43,23 +43,23 @@ elements-requires t c =
 
 pub loop-at-smaller : goal.loop-at-smaller
 loop-at-smaller t c =
-    let w = constructed_in c.args.depth c.args.m.now c.loop-at.at c.loop-at-test.true c.loop-at.invariant.1 c.in-Constructed.ensures in
-    omega (arith, length-take-le (c.loop-at.at + c.in-Constructed.start + c.in-Constructed.len) c.args.m.now w.1, c.in_ok-elements-in-Constructed.ensures.ends)
+    omega (arith, constructed_in c.args.depth c.args.m.now c.loop-at.at c.loop-at-test.true c.loop-at.invariant.1 c.in-Constructed.ensures)
 
 pub loop-at-preserved : goal.loop-at-preserved
 loop-at-preserved t c =
-    let w = constructed_in c.args.depth c.args.m.now c.loop-at.at c.loop-at-test.true c.loop-at.invariant.1 c.in-Constructed.ensures in
-    rw (c.in_ok-elements-in-Constructed.ensures.ends ∙ length-take-le (c.loop-at.at + c.in-Constructed.start + c.in-Constructed.len) c.args.m.now w.1)
-    (w.1, after_sound c.args.depth c.args.m.now c.loop-at.at c.loop-at-test.true c.loop-at.invariant.1 c.in-Constructed.ensures c.in_ok-elements-in-Constructed.ensures.checked refl)
+    ((constructed_in c.args.depth c.args.m.now c.loop-at.at c.loop-at-test.true c.loop-at.invariant.1 c.in-Constructed.ensures).1, after_sound c.args.depth c.args.m.now c.loop-at.at c.loop-at-test.true c.loop-at.invariant.1 c.in-Constructed.ensures c.in-Sound.ensures refl)
 
-pub returns-in_err-elements-in-Constructed-clause-checked : goal.returns-in_err-elements-in-Constructed-clause-checked
-returns-in_err-elements-in-Constructed-clause-checked t c =
-    let p = err_from_is_err_and c.from_residual.result c.from_residual.ensures.1 in rw (p.1, p.2) (at_fault c.args.depth c.args.m.now c.loop-at.at c.loop-at-test.true c.loop-at.invariant.1 c.in-Constructed.ensures c.in_err-elements-in-Constructed.ensures.checked (λ q. cc))
+pub returns-in_default : goal.returns-in_default
+returns-in_default t c =
+    at_fault c.args.depth c.args.m.now c.loop-at.at c.loop-at-test.true c.loop-at.invariant.1 c.in-Constructed.ensures refl c.elements.result c.elements.ensures c.in_default.not-Sound
 
-pub returns-in-Faulty-clause-checked : goal.returns-in-Faulty-clause-checked
-returns-in-Faulty-clause-checked t c =
-    at_faulty c.args.depth c.args.m.now c.loop-at.at c.loop-at-test.true c.loop-at.invariant.1 c.in-Faulty.ensures
+pub fault-requires : goal.fault-requires
+fault-requires t c = faulty_rule c.args.depth _ c.in-Faulty.ensures
 
-pub returns-clause-checked : goal.returns-clause-checked
-returns-clause-checked t c =
+pub returns-in-Faulty : goal.returns-in-Faulty
+returns-in-Faulty t c =
+    c.fault.ensures ∙ at_faulty c.args.depth c.args.m.now c.loop-at.at c.loop-at-test.true c.loop-at.invariant.1 c.in-Faulty.ensures
+
+pub returns : goal.returns
+returns t c =
     check-end c.args.depth c.args.m.now c.loop-at.at c.loop-at-test.false c.loop-at.invariant.1

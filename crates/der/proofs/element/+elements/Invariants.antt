@@ -10,7 +10,7 @@ decreases-elements l = l.depth
 
 abbrev pub invariant-loop-at : goal.invariant-loop-at
 invariant-loop-at l =
-    (l.at ≤ length l.m) × (check_at l.depth l.initial.at (drop l.initial.at l.m) ≡ check_at l.depth l.at (drop l.at l.m))
+    (l.at ≤ length l.m) × (check_at l.depth l.from (drop l.from l.m) ≡ check_at l.depth l.at (drop l.at l.m))
 
 abbrev pub decreases-loop-at : goal.decreases-loop-at
 decreases-loop-at l = length l.m - l.at
