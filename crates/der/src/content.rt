@@ -1,5 +1,5 @@
 // The content rules of primitive elements: point 4 of document 01, "DER as we take it".
-ghost use Rattle.std.specs.Prelude.{◌≡◌, true};
+ghost use Rattle.std.specs.Prelude.{◌≡◌, true, not, ◌&&◌, eqb};
 ghost use Rattle.der.specs.Content.{boolean_ok, integer_ok, bit_string_ok, arcs_ok, oid_ok, content_ok};
 
 #[tactic(auto, unfolding(crate::specs::Content::boolean_ok))]
@@ -60,12 +60,13 @@ fn oid_ok(c: &[u8]) -> bool
     }
 }
 
-// Whether a primitive element with this tag may have this content.
+// Whether a primitive element with this tag may have this content; of 0, which is no tag, none.
 #[tactic(auto, unfolding(crate::specs::Content::content_ok))]
 pub(crate) fn content_ok(tag: u8, c: &[u8]) -> bool
-    ensures { result ≡ content_ok tag c.now }
+    ensures { result ≡ (not (eqb tag 0) && content_ok tag c.now) }
 {
     match tag {
+        0 => false,
         1 => boolean_ok(c),
         2 => integer_ok(c),
         3 => bit_string_ok(c),

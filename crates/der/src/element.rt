@@ -34,7 +34,7 @@ pub enum Check {
 fn form_ok(tag: u8) -> bool
     ensures { result ≡ form_ok tag }
 {
-    matches!(tag, 0x00..=0x0F | 0x12..=0x1F | 0x30 | 0x31 | 0x40..)
+    matches!(tag, 0x40.. | 0x30 | 0x31 | 0x00..=0x0F | 0x12..=0x1F)
 }
 
 // What an element is by its tag and content, wherever it stands.
@@ -52,7 +52,7 @@ fn kind_with(tag: u8, c: &[u8]) -> Kind
 {
     match tag {
         0x30 => Kind::Constructed,
-        0x01..=0x0F => {
+        0x00..=0x0F => {
             if content_ok(tag, c) {
                 Kind::Primitive
             } else {
@@ -65,17 +65,17 @@ fn kind_with(tag: u8, c: &[u8]) -> Kind
     }
 }
 
-// The rule that the faulty element at the start of `s` breaks.
+// The rule that the faulty element at the start of `s` breaks, where a level is left or none is.
 #[cold]
 #[inline(never)]
 #[tactic(auto, unfolding(crate::specs::Code::rule_of))]
-fn rule_of(s: &[u8], depth: u8) -> u8
-    ensures { result ≡ rule_of depth (head_of s.now) }
+fn rule_of(s: &[u8], level: bool) -> u8
+    ensures { result ≡ rule_of level (head_of s.now) }
 {
     match head::read(s) {
         Head::Bad(rule) => rule,
-        Head::Whole { tag, .. } if depth == 0 || !form_ok(tag) => 3,
-        Head::Whole { .. } => 4,
+        Head::Whole { tag, .. } if level && form_ok(tag) => 4,
+        Head::Whole { .. } => 3,
     }
 }
 
@@ -85,15 +85,15 @@ fn first_element(s: &[u8], depth: u8) -> Element
     ensures { result ≡ element_of depth s.now }
 {
     if depth == 0 {
-        return Element::Faulty(rule_of(s, depth));
+        return Element::Faulty(rule_of(s, false));
     }
     let Head::Whole { tag, start, len } = head::read_length(s) else {
-        return Element::Faulty(rule_of(s, depth));
+        return Element::Faulty(rule_of(s, true));
     };
     match kind_with(tag, &s[start..start + len]) {
         Kind::Primitive => Element::Primitive(start + len),
         Kind::Constructed => Element::Constructed { start, len },
-        Kind::Faulty => Element::Faulty(rule_of(s, depth)),
+        Kind::Faulty => Element::Faulty(rule_of(s, true)),
     }
 }
 
@@ -131,9 +131,9 @@ fn elements(m: &[u8], from: usize, depth: u8) -> Run
             Element::Primitive(size) => at += size,
             Element::Constructed { start, len } => {
                 let content = at + start;
-                let end = content + len;
-                match elements(&m[..end], content, depth - 1) {
-                    Run::Sound => at = end,
+                at = content + len;
+                match elements(&m[..at], content, depth - 1) {
+                    Run::Sound => {}
                     found => return found,
                 }
             }

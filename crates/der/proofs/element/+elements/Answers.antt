@@ -24,8 +24,8 @@ pub overflow_add-content : goal.overflow_add-content
 overflow_add-content t c =
     omega (arith, constructed_in c.args.depth c.args.m.now c.loop-at.at c.loop-at-test.true c.loop-at.invariant.1 c.in-Constructed.ensures)
 
-pub overflow_add-end : goal.overflow_add-end
-overflow_add-end t c =
+pub overflow_add-at-in-Constructed : goal.overflow_add-at-in-Constructed
+overflow_add-at-in-Constructed t c =
     omega (arith, constructed_in c.args.depth c.args.m.now c.loop-at.at c.loop-at-test.true c.loop-at.invariant.1 c.in-Constructed.ensures)
 
 pub slice_bounds-elements-end : goal.slice_bounds-elements-end
