@@ -23,7 +23,7 @@ use Rattle.der.specs.declared.element.Run.TheVariants.{Sound as RunSound, BadTag
 use Rattle.der.specs.Head.{head_of}
 use Rattle.der.specs.Content.{content_ok}
 use Rattle.der.specs.Element.{constructed, form_ok, judge, element_of, size_of, and_then, with_content, each_element, content_at, check_at}
-use Rattle.der.specs.Code.{check_of}
+use Rattle.der.specs.Code.{check_of, EndsAt}
 use Rattle.der.proofs.HeadLaws.{HeadIn, head_in_lem, cond-case, cond_both}
 
 -- an element takes at least two bytes and ends inside; a constructed one has a level left
@@ -141,13 +141,21 @@ module _ (d : ℕ) (s : List ℕ) (i : ℕ) {whole : Check} (here : i < length s
       unfolding with_rest
       after_sound f = called ∙ ap with_rest f
 
-      pub at_fault : (v : Run) → check_of v ≡ inner → (v ≡ RunSound → ⊥) → check_of v ≡ whole
+      pub at_fault : (v : Run) → check_of v ≡ inner → ((end : ℕ) → v ≡ RunSound end → ⊥) → check_of v ≡ whole
       unfolding with_rest
-      at_fault RunSound q n = absurd (n refl)
+      at_fault (RunSound end) q n = absurd (n end refl)
       at_fault (BadTag at) q n = sym (called ∙ ap with_rest (sym q))
       at_fault (BadLength at) q n = sym (called ∙ ap with_rest (sym q))
       at_fault (BadForm at) q n = sym (called ∙ ap with_rest (sym q))
       at_fault (BadContent at) q n = sym (called ∙ ap with_rest (sym q))
+
+-- nothing is said of the end of what is not sound
+pub no_end : (n : ℕ) (v : Run) → ((end : ℕ) → v ≡ RunSound end → ⊥) → EndsAt n v
+no_end n (RunSound end) q = absurd (q end refl)
+no_end n (BadTag at) q = tt
+no_end n (BadLength at) q = tt
+no_end n (BadForm at) q = tt
+no_end n (BadContent at) q = tt
 
 pub check-end : (d : ℕ) (s : List ℕ) (i : ℕ) {whole : Check} → length s ≤ i → whole ≡ check_at d i (drop i s) → Sound ≡ whole
 unfolding check_at each_element

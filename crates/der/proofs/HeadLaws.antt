@@ -105,6 +105,33 @@ pub whole-tag : (s : List ℕ) {tag start len : ℕ} → head_of s ≡ Whole tag
 unfolding TagIs
 whole-tag s e = subst (TagIs (byte s 0)) e (head_tag_is s)
 
+-- a length is bad by rule 2 alone
+unfoldable IsTwo : Head → Type 0
+IsTwo (Bad rule) = rule ≡ 2
+IsTwo (Whole tag start len) = Unit {0}
+
+two : IsTwo (Bad 2)
+unfolding IsTwo
+two = refl
+
+inside_two : (n t start len : ℕ) → IsTwo (inside n t start len)
+unfolding inside IsTwo
+inside_two n t start len = cond-case IsTwo (leb (start + len) n) {x = Whole t start len} {y = Bad 2} tt refl
+
+length_two : (s : List ℕ) → IsTwo (length_of s)
+unfolding length_of length81 length82
+length_two s =
+    let t : ℕ = byte s 0 in
+    let n : ℕ = length s in
+    cond-case IsTwo (ltb n 2) two
+    (cond-case IsTwo (ltb (byte s 1) 128) (inside_two n t 2 (byte s 1))
+    (cond-case IsTwo (eqb (byte s 1) 129) (cond-case IsTwo (ltb n 3 || ltb (byte s 2) 128) two (inside_two n t 3 (byte s 2)))
+    (cond-case IsTwo (eqb (byte s 1) 130) (cond-case IsTwo (ltb n 4 || eqb (byte s 2) 0) two (inside_two n t 4 (byte s 2 * 256 + byte s 3))) two)))
+
+pub bad_length_is : (s : List ℕ) {rule : ℕ} → Bad rule ≡ length_of s → rule ≡ 2
+unfolding IsTwo
+bad_length_is s e = subst IsTwo (sym e) (length_two s)
+
 -- ## A head as one number
 
 -- the two parts of such a number

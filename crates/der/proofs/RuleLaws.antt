@@ -1,6 +1,6 @@
 -- The rules that a fault of DER names: 1 to 4.
 use Prim.Native.Nat.{ℕ, zero, suc, ◌+◌, ◌-◌, ◌*◌, ◌/◌, ◌%◌, ◌<◌, ◌≤◌}
-use mathlib.Core.Path.{◌≡◌, refl, sym, subst}
+use mathlib.Core.Path.{◌≡◌, refl, subst}
 use native.Mathlib.Omega.{arith}
 use borrow.Author.Tests.{lt-ltb, le-ltb}
 use mathlib.Core.List.{List, [], ◌∷◌}
@@ -69,10 +69,6 @@ judge_rule d s (Whole tag start len) w =
 element_rule : (d : ℕ) (s : List ℕ) → ElementRule (element_of d s)
 unfolding element_of
 element_rule d s = judge_rule d s (head_of s) (head_rule s)
-
-pub faulty_rule : (d : ℕ) (s : List ℕ) {rule : ℕ} → Faulty rule ≡ element_of d s → Rule rule
-unfolding ElementRule
-faulty_rule d s e = subst ElementRule (sym e) (element_rule d s)
 
 both_rule : (v next : Check) → CheckRule v → CheckRule next → CheckRule (and_then v next)
 both_rule Sound next w u = u

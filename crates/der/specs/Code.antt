@@ -1,6 +1,6 @@
 -- Definitions that only follow the code: tests in the order in which it makes them, and what it hands from function to function. What
 -- they mean is proved in proofs/ (HeadLaws, KindLaws and ElementLaws); a reader of the paper need not look at them.
-use Rattle.std.specs.Prelude.{ℕ, ◌+◌, ◌*◌, List, Bool, cond, ◌&&◌}
+use Rattle.std.specs.Prelude.{ℕ, ◌+◌, ◌*◌, List, Bool, not, cond, ◌&&◌, eqb, ◌≡◌}
 use Rattle.der.specs.declared.Offset.{Offset}
 use Rattle.der.specs.declared.head.Head.{Head}
 use Rattle.der.specs.declared.head.Head.TheVariants.{Bad, Whole}
@@ -27,10 +27,10 @@ packed_of (Whole tag start len) = len * 8 + start
 unfoldable pub kind_of : ℕ → List ℕ → Kind
 kind_of tag c = cond (tag_ok tag && form_ok tag) (cond (constructed tag) Constructed (cond (content_ok tag c) Primitive Faulty)) Faulty
 
--- the rule that a faulty element with this tag and length breaks, where a level is left or none is
-unfoldable pub rule_of : Bool → Head → ℕ
-rule_of level (Bad rule) = rule
-rule_of level (Whole tag start len) = cond (level && form_ok tag) 4 3
+-- the rule that a faulty element with this tag and length breaks
+unfoldable pub rule_of : ℕ → Head → ℕ
+rule_of d (Bad rule) = rule
+rule_of d (Whole tag start len) = cond (form_ok tag && not (eqb d 0)) 4 3
 
 -- a fault at this place
 abbrev pub fault_of : ℕ → ℕ → Check
@@ -38,8 +38,16 @@ fault_of at rule = Fault (record { 0 = at }) rule
 
 -- what a run's check says
 abbrev pub check_of : Run → Check
-check_of RunSound = Sound
+check_of (RunSound end) = Sound
 check_of (BadTag at) = Fault at 1
 check_of (BadLength at) = Fault at 2
 check_of (BadForm at) = Fault at 3
 check_of (BadContent at) = Fault at 4
+
+-- where all of n bytes are sound, they are what was checked
+abbrev pub EndsAt : ℕ → Run → Type 0
+EndsAt n (RunSound end) = end ≡ n
+EndsAt n (BadTag at) = Unit {0}
+EndsAt n (BadLength at) = Unit {0}
+EndsAt n (BadForm at) = Unit {0}
+EndsAt n (BadContent at) = Unit {0}

@@ -1,8 +1,8 @@
 // Whole elements with all that they hold: point 3 of document 01, "DER as we take it", over the other three.
-ghost use Rattle.std.specs.Prelude.{◌≡◌, ◌≤◌, length, drop};
+ghost use Rattle.std.specs.Prelude.{◌≡◌, ◌<◌, ◌≤◌, length, drop};
 ghost use Rattle.der.specs.Head.{head_of};
-ghost use Rattle.der.specs.Element.{form_ok, element_of, check_at, check, fills, is_element};
-ghost use Rattle.der.specs.Code.{kind_of, rule_of, fault_of, check_of};
+ghost use Rattle.der.specs.Element.{form_ok, check_at, check, fills, is_element};
+ghost use Rattle.der.specs.Code.{kind_of, rule_of, fault_of, check_of, EndsAt};
 
 use crate::Offset;
 use crate::content::content_ok;
@@ -65,82 +65,64 @@ fn kind_with(tag: u8, c: &[u8]) -> Kind
     }
 }
 
-// The rule that the faulty element at the start of `s` breaks, where a level is left or none is.
-#[cold]
-#[inline(never)]
-#[tactic(auto, unfolding(crate::specs::Code::rule_of))]
-fn rule_of(s: &[u8], level: bool) -> u8
-    ensures { result ≡ rule_of level (head_of s.now) }
-{
-    match head::read(s) {
-        Head::Bad(rule) => rule,
-        Head::Whole { tag, .. } if level && form_ok(tag) => 4,
-        Head::Whole { .. } => 3,
-    }
-}
-
-// The element that `s` begins with, by itself, where `depth` levels are left. Most are sound: which rule is broken is asked last.
-#[tactic(auto, using(crate::proofs::HeadLaws::length_whole_in, crate::proofs::KindLaws::no_level, crate::proofs::KindLaws::no_length))]
-fn first_element(s: &[u8], depth: u8) -> Element
-    ensures { result ≡ element_of depth s.now }
-{
-    if depth == 0 {
-        return Element::Faulty(rule_of(s, false));
-    }
-    let Head::Whole { tag, start, len } = head::read_length(s) else {
-        return Element::Faulty(rule_of(s, true));
-    };
-    match kind_with(tag, &s[start..start + len]) {
-        Kind::Primitive => Element::Primitive(start + len),
-        Kind::Constructed => Element::Constructed { start, len },
-        Kind::Faulty => Element::Faulty(rule_of(s, true)),
-    }
-}
-
-// What the check of a run of elements finds: the first fault by its rule, and where it is.
+// What the check of a run of elements finds: its end where all are sound, else the first fault by its rule, and where it is.
 #[derive(Clone, Copy)]
 enum Run {
-    Sound,
+    Sound(usize),
     BadTag(Offset),
     BadLength(Offset),
     BadForm(Offset),
     BadContent(Offset),
 }
 
-// A fault of rule 1, 2, 3 or 4.
-fn fault(rule: u8, at: usize) -> Run
-    requires { (1 ≤ rule) × (rule ≤ 4) }
-    ensures { check_of result ≡ fault_of at rule }
+// The fault of the element at `at`, which `s` begins with.
+#[cold]
+#[inline(never)]
+#[tactic(auto, unfolding(crate::specs::Code::rule_of, crate::specs::Head::head_of), using(crate::proofs::HeadLaws::bad_length_is))]
+fn fault(s: &[u8], at: usize, depth: u8) -> Run
+    requires { 0 < length s.now }
+    ensures { check_of result ≡ fault_of at (rule_of depth (head_of s.now)) }
 {
-    match rule {
-        1 => Run::BadTag(Offset(at)),
-        2 => Run::BadLength(Offset(at)),
-        3 => Run::BadForm(Offset(at)),
-        _ => Run::BadContent(Offset(at)),
+    if !tag_ok(s[0]) {
+        return Run::BadTag(Offset(at));
+    }
+    match head::read_length(s) {
+        Head::Bad(_) => Run::BadLength(Offset(at)),
+        Head::Whole { tag, .. } if depth == 0 || !form_ok(tag) => Run::BadForm(Offset(at)),
+        Head::Whole { .. } => Run::BadContent(Offset(at)),
     }
 }
 
 // The elements of `m` from `from` on, where `depth` levels are left. What an element holds is checked by a call, a level deeper.
+#[tactic(auto, using(crate::proofs::HeadLaws::length_whole_in))]
 fn elements(m: &[u8], from: usize, depth: u8) -> Run
     requires { from ≤ length m.now }
-    ensures { check_of result ≡ check_at depth from (drop from m.now) }
+    ensures checked { check_of result ≡ check_at depth from (drop from m.now) }
+    ensures ends { EndsAt (length m.now) result }
 {
     let mut at = from;
     while at < m.len() {
-        match first_element(&m[at..], depth) {
-            Element::Primitive(size) => at += size,
-            Element::Constructed { start, len } => {
+        let rest = &m[at..];
+        if depth == 0 {
+            return fault(rest, at, depth);
+        }
+        let Head::Whole { tag, start, len } = head::read_length(rest) else {
+            return fault(rest, at, depth);
+        };
+        match kind_with(tag, &rest[start..start + len]) {
+            Kind::Primitive => at += start + len,
+            Kind::Constructed => {
                 let content = at + start;
-                at = content + len;
-                match elements(&m[..at], content, depth - 1) {
-                    Run::Sound => {}
+                let end = content + len;
+                match elements(&m[..end], content, depth - 1) {
+                    Run::Sound(to) => at = to,
                     found => return found,
                 }
             }
-            Element::Faulty(rule) => return fault(rule, at),
+            Kind::Faulty => return fault(rest, at, depth),
         }
     }
-    Run::Sound
+    Run::Sound(at)
 }
 
 // Whether all of `s` is whole elements, the first at depth 1; or the first fault.
@@ -149,7 +131,7 @@ pub fn check_elements(s: &[u8]) -> Check
     ensures { result ≡ check s.now }
 {
     match elements(s, 0, MAX_DEPTH) {
-        Run::Sound => Check::Sound,
+        Run::Sound(_) => Check::Sound,
         Run::BadTag(at) => Check::Fault(at, 1),
         Run::BadLength(at) => Check::Fault(at, 2),
         Run::BadForm(at) => Check::Fault(at, 3),
@@ -169,5 +151,5 @@ fn fills(s: &[u8]) -> bool
 pub fn is_element(s: &[u8], depth: u8) -> bool
     ensures { result ≡ is_element depth s.now }
 {
-    fills(s) && matches!(elements(s, 0, depth), Run::Sound)
+    fills(s) && matches!(elements(s, 0, depth), Run::Sound(_))
 }

@@ -1,65 +1,81 @@
 -- A round of the loop: what the element there is, and that the loop goes on past it or answers its fault.
-use Prim.Native.Nat.{◌+◌}
+use Prim.Native.Nat.{◌+◌, ◌-◌}
 use native.Mathlib.Omega.{arith}
-use lib.ListN.{length, take}
+use lib.ListN.{length, take, drop, length-drop, length-take}
 use lib.Seq.{length-take-le}
-use mathlib.Core.Path.{◌∙◌, refl, sym}
-use Rattle.der.proofs.RuleLaws.{faulty_rule}
-use Rattle.der.proofs.ElementLaws.{at_faulty, primitive_in, after_primitive, constructed_in, after_sound, at_fault, check-end}
+use mathlib.Core.Path.{◌∙◌, refl, sym, ap}
+use Rattle.der.specs.Code.{fault_of}
+use Rattle.der.proofs.HeadLaws.{length_whole_in}
+use Rattle.der.proofs.KindLaws.{no_level, no_length, by_kind}
+use Rattle.der.proofs.ElementLaws.{at_faulty, primitive_in, after_primitive, constructed_in, after_sound, at_fault, no_end, check-end}
 use Rattle.der.proofs.element.+elements.Goals as goal
 
 pub overflow_add-at : goal.overflow_add-at
 overflow_add-at t c =
-    omega (arith, primitive_in c.args.depth c.args.m.now c.loop-at.at c.loop-at-test.true c.loop-at.invariant.1 c.in-Primitive.ensures)
+    omega (arith, primitive_in c.args.depth c.args.m.now c.loop-at.at c.loop-at-test.true c.loop-at.invariant.1 (by_kind c.args.depth _ c.if-depth-eq0.false c.in-Whole.ensures c.in-Primitive.ensures))
 
 pub loop-at-smaller-in-Primitive : goal.loop-at-smaller-in-Primitive
 loop-at-smaller-in-Primitive t c =
-    omega (arith, primitive_in c.args.depth c.args.m.now c.loop-at.at c.loop-at-test.true c.loop-at.invariant.1 c.in-Primitive.ensures)
+    omega (arith, primitive_in c.args.depth c.args.m.now c.loop-at.at c.loop-at-test.true c.loop-at.invariant.1 (by_kind c.args.depth _ c.if-depth-eq0.false c.in-Whole.ensures c.in-Primitive.ensures))
 
 pub loop-at-preserved-in-Primitive : goal.loop-at-preserved-in-Primitive
 loop-at-preserved-in-Primitive t c =
-    ((primitive_in c.args.depth c.args.m.now c.loop-at.at c.loop-at-test.true c.loop-at.invariant.1 c.in-Primitive.ensures).1, after_primitive c.args.depth c.args.m.now c.loop-at.at c.loop-at-test.true c.loop-at.invariant.1 c.in-Primitive.ensures)
+    ((primitive_in c.args.depth c.args.m.now c.loop-at.at c.loop-at-test.true c.loop-at.invariant.1 (by_kind c.args.depth _ c.if-depth-eq0.false c.in-Whole.ensures c.in-Primitive.ensures)).1, after_primitive c.args.depth c.args.m.now c.loop-at.at c.loop-at-test.true c.loop-at.invariant.1 (by_kind c.args.depth _ c.if-depth-eq0.false c.in-Whole.ensures c.in-Primitive.ensures))
 
 pub overflow_add-content : goal.overflow_add-content
 overflow_add-content t c =
-    omega (arith, constructed_in c.args.depth c.args.m.now c.loop-at.at c.loop-at-test.true c.loop-at.invariant.1 c.in-Constructed.ensures)
+    omega (arith, constructed_in c.args.depth c.args.m.now c.loop-at.at c.loop-at-test.true c.loop-at.invariant.1 (by_kind c.args.depth _ c.if-depth-eq0.false c.in-Whole.ensures c.in-Constructed.ensures))
 
-pub overflow_add-at-in-Constructed : goal.overflow_add-at-in-Constructed
-overflow_add-at-in-Constructed t c =
-    omega (arith, constructed_in c.args.depth c.args.m.now c.loop-at.at c.loop-at-test.true c.loop-at.invariant.1 c.in-Constructed.ensures)
+pub overflow_add-end : goal.overflow_add-end
+overflow_add-end t c =
+    omega (arith, constructed_in c.args.depth c.args.m.now c.loop-at.at c.loop-at-test.true c.loop-at.invariant.1 (by_kind c.args.depth _ c.if-depth-eq0.false c.in-Whole.ensures c.in-Constructed.ensures))
 
 pub slice_bounds-elements-end : goal.slice_bounds-elements-end
 slice_bounds-elements-end t c =
-    sym (length-take-le _ c.args.m.now (constructed_in c.args.depth c.args.m.now c.loop-at.at c.loop-at-test.true c.loop-at.invariant.1 c.in-Constructed.ensures).1)
+    sym (length-take-le _ c.args.m.now (constructed_in c.args.depth c.args.m.now c.loop-at.at c.loop-at-test.true c.loop-at.invariant.1 (by_kind c.args.depth _ c.if-depth-eq0.false c.in-Whole.ensures c.in-Constructed.ensures)).1)
 
 pub overflow_sub-depth : goal.overflow_sub-depth
 overflow_sub-depth t c =
-    omega (arith, constructed_in c.args.depth c.args.m.now c.loop-at.at c.loop-at-test.true c.loop-at.invariant.1 c.in-Constructed.ensures)
+    omega (arith, constructed_in c.args.depth c.args.m.now c.loop-at.at c.loop-at-test.true c.loop-at.invariant.1 (by_kind c.args.depth _ c.if-depth-eq0.false c.in-Whole.ensures c.in-Constructed.ensures))
 
 pub elements-requires : goal.elements-requires
 elements-requires t c =
-    let w = constructed_in c.args.depth c.args.m.now c.loop-at.at c.loop-at-test.true c.loop-at.invariant.1 c.in-Constructed.ensures in
-    omega (arith, length-take-le (c.loop-at.at + c.in-Constructed.start + c.in-Constructed.len) c.args.m.now w.1)
+    let w = constructed_in c.args.depth c.args.m.now c.loop-at.at c.loop-at-test.true c.loop-at.invariant.1 (by_kind c.args.depth _ c.if-depth-eq0.false c.in-Whole.ensures c.in-Constructed.ensures) in
+    omega (arith, length-take-le (c.loop-at.at + c.in-Whole.start + c.in-Whole.len) c.args.m.now w.1)
 
 pub loop-at-smaller : goal.loop-at-smaller
 loop-at-smaller t c =
-    omega (arith, constructed_in c.args.depth c.args.m.now c.loop-at.at c.loop-at-test.true c.loop-at.invariant.1 c.in-Constructed.ensures)
+    let w = constructed_in c.args.depth c.args.m.now c.loop-at.at c.loop-at-test.true c.loop-at.invariant.1 (by_kind c.args.depth _ c.if-depth-eq0.false c.in-Whole.ensures c.in-Constructed.ensures) in
+    omega (arith, length-take-le (c.loop-at.at + c.in-Whole.start + c.in-Whole.len) c.args.m.now w.1, c.in-Sound.ensures.ends)
 
 pub loop-at-preserved : goal.loop-at-preserved
 loop-at-preserved t c =
-    ((constructed_in c.args.depth c.args.m.now c.loop-at.at c.loop-at-test.true c.loop-at.invariant.1 c.in-Constructed.ensures).1, after_sound c.args.depth c.args.m.now c.loop-at.at c.loop-at-test.true c.loop-at.invariant.1 c.in-Constructed.ensures c.in-Sound.ensures refl)
+    let w = constructed_in c.args.depth c.args.m.now c.loop-at.at c.loop-at-test.true c.loop-at.invariant.1 (by_kind c.args.depth _ c.if-depth-eq0.false c.in-Whole.ensures c.in-Constructed.ensures) in
+    rw (c.in-Sound.ensures.ends ∙ length-take-le (c.loop-at.at + c.in-Whole.start + c.in-Whole.len) c.args.m.now w.1)
+    (w.1, after_sound c.args.depth c.args.m.now c.loop-at.at c.loop-at-test.true c.loop-at.invariant.1 (by_kind c.args.depth _ c.if-depth-eq0.false c.in-Whole.ensures c.in-Constructed.ensures) c.in-Sound.ensures.checked refl)
 
-pub returns-in_default : goal.returns-in_default
-returns-in_default t c =
-    at_fault c.args.depth c.args.m.now c.loop-at.at c.loop-at-test.true c.loop-at.invariant.1 c.in-Constructed.ensures refl c.elements.result c.elements.ensures c.in_default.not-Sound
+pub overflow_add-at-in-Primitive : goal.overflow_add-at-in-Primitive
+overflow_add-at-in-Primitive t c =
+    omega (arith, primitive_in c.args.depth c.args.m.now c.loop-at.at c.loop-at-test.true c.loop-at.invariant.1 (by_kind c.args.depth _ c.if-depth-eq0.false c.in-Whole.ensures c.in-Primitive.ensures))
 
-pub fault-requires : goal.fault-requires
-fault-requires t c = faulty_rule c.args.depth _ c.in-Faulty.ensures
+pub returns-in_default-elements : goal.returns-in_default-elements
+returns-in_default-elements t c = record {
+  checked = at_fault c.args.depth c.args.m.now c.loop-at.at c.loop-at-test.true c.loop-at.invariant.1 (by_kind c.args.depth _ c.if-depth-eq0.false c.in-Whole.ensures c.in-Constructed.ensures) refl c.elements.result c.elements.ensures.checked c.in_default-elements.not-Sound;
+  ends = no_end _ c.elements.result c.in_default-elements.not-Sound;
+}
 
-pub returns-in-Faulty : goal.returns-in-Faulty
-returns-in-Faulty t c =
-    c.fault.ensures ∙ at_faulty c.args.depth c.args.m.now c.loop-at.at c.loop-at-test.true c.loop-at.invariant.1 c.in-Faulty.ensures
+pub returns-then-depth-eq0-clause-checked : goal.returns-then-depth-eq0-clause-checked
+returns-then-depth-eq0-clause-checked t c =
+    c.fault.ensures ∙ at_faulty c.args.depth c.args.m.now c.loop-at.at c.loop-at-test.true c.loop-at.invariant.1 (no_level c.args.depth _ c.if-depth-eq0.true)
 
-pub returns : goal.returns
-returns t c =
+pub returns-in_default-clause-checked : goal.returns-in_default-clause-checked
+returns-in_default-clause-checked t c =
+    c.fault-in_default.ensures ∙ at_faulty c.args.depth c.args.m.now c.loop-at.at c.loop-at-test.true c.loop-at.invariant.1 (no_length c.args.depth _ c.in_default.ensures)
+
+pub returns-in-Faulty-clause-checked : goal.returns-in-Faulty-clause-checked
+returns-in-Faulty-clause-checked t c =
+    c.fault-in-Faulty.ensures ∙ at_faulty c.args.depth c.args.m.now c.loop-at.at c.loop-at-test.true c.loop-at.invariant.1 (by_kind c.args.depth _ c.if-depth-eq0.false c.in-Whole.ensures c.in-Faulty.ensures)
+
+pub returns-clause-checked : goal.returns-clause-checked
+returns-clause-checked t c =
     check-end c.args.depth c.args.m.now c.loop-at.at c.loop-at-test.false c.loop-at.invariant.1
