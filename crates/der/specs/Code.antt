@@ -1,6 +1,6 @@
 -- Definitions that only follow the code: tests in the order in which it makes them, and what it hands from function to function. What
 -- they mean is proved in proofs/ (HeadLaws, KindLaws and ElementLaws); a reader of the paper need not look at them.
-use Rattle.std.specs.Prelude.{ℕ, ◌+◌, ◌*◌, List, Bool, not, cond, ◌&&◌, eqb, ◌≡◌}
+use Rattle.std.specs.Prelude.{ℕ, ◌+◌, ◌*◌, List, Bool, cond, ◌&&◌, ◌≡◌}
 use Rattle.der.specs.declared.Offset.{Offset}
 use Rattle.der.specs.declared.head.Head.{Head}
 use Rattle.der.specs.declared.head.Head.TheVariants.{Bad, Whole}
@@ -27,10 +27,10 @@ packed_of (Whole tag start len) = len * 8 + start
 unfoldable pub kind_of : ℕ → List ℕ → Kind
 kind_of tag c = cond (tag_ok tag && form_ok tag) (cond (constructed tag) Constructed (cond (content_ok tag c) Primitive Faulty)) Faulty
 
--- the rule that a faulty element with this tag and length breaks
-unfoldable pub rule_of : ℕ → Head → ℕ
-rule_of d (Bad rule) = rule
-rule_of d (Whole tag start len) = cond (form_ok tag && not (eqb d 0)) 4 3
+-- the rule that a faulty element with this tag and length breaks, where a level is left or none is
+unfoldable pub rule_of : Bool → Head → ℕ
+rule_of level (Bad rule) = rule
+rule_of level (Whole tag start len) = cond (level && form_ok tag) 4 3
 
 -- a fault at this place
 abbrev pub fault_of : ℕ → ℕ → Check

@@ -40,7 +40,7 @@ fn arcs_ok(c: &[u8]) -> bool
     // an arc begins here
     let mut fresh = true;
     for x in c {
-        if fresh && *x == 128 {
+        if *x == 128 && fresh {
             return false;
         }
         fresh = *x < 128;

@@ -75,21 +75,21 @@ enum Run {
     BadContent(Offset),
 }
 
-// The fault of the element at `at`, which `s` begins with.
+// The fault of the element at `at`, which `s` begins with, where a level is left or none is.
 #[cold]
 #[inline(never)]
 #[tactic(auto, unfolding(crate::specs::Code::rule_of, crate::specs::Head::head_of), using(crate::proofs::HeadLaws::bad_length_is))]
-fn fault(s: &[u8], at: usize, depth: u8) -> Run
+fn fault(s: &[u8], at: usize, level: bool) -> Run
     requires { 0 < length s.now }
-    ensures { check_of result ≡ fault_of at (rule_of depth (head_of s.now)) }
+    ensures { check_of result ≡ fault_of at (rule_of level (head_of s.now)) }
 {
     if !tag_ok(s[0]) {
         return Run::BadTag(Offset(at));
     }
     match head::read_length(s) {
         Head::Bad(_) => Run::BadLength(Offset(at)),
-        Head::Whole { tag, .. } if depth == 0 || !form_ok(tag) => Run::BadForm(Offset(at)),
-        Head::Whole { .. } => Run::BadContent(Offset(at)),
+        Head::Whole { tag, .. } if level && form_ok(tag) => Run::BadContent(Offset(at)),
+        Head::Whole { .. } => Run::BadForm(Offset(at)),
     }
 }
 
@@ -104,10 +104,10 @@ fn elements(m: &[u8], from: usize, depth: u8) -> Run
     while at < m.len() {
         let rest = &m[at..];
         if depth == 0 {
-            return fault(rest, at, depth);
+            return fault(rest, at, false);
         }
         let Head::Whole { tag, start, len } = head::read_length(rest) else {
-            return fault(rest, at, depth);
+            return fault(rest, at, true);
         };
         match kind_with(tag, &rest[start..start + len]) {
             Kind::Primitive => at += start + len,
@@ -119,7 +119,7 @@ fn elements(m: &[u8], from: usize, depth: u8) -> Run
                     found => return found,
                 }
             }
-            Kind::Faulty => return fault(rest, at, depth),
+            Kind::Faulty => return fault(rest, at, true),
         }
     }
     Run::Sound(at)
