@@ -75,14 +75,15 @@ enum Run {
     BadContent(Offset),
 }
 
-// The fault of the element at `at`, which `s` begins with, where a level is left or none is.
+// The fault of the element at `at`, where a level is left or none is. Few elements are faulty: the way of the sound ones stays short.
 #[cold]
 #[inline(never)]
-#[tactic(auto, unfolding(crate::specs::Code::rule_of, crate::specs::Head::head_of), using(crate::proofs::HeadLaws::bad_length_is))]
-fn fault(s: &[u8], at: usize, level: bool) -> Run
-    requires { 0 < length s.now }
-    ensures { check_of result ≡ fault_of at (rule_of level (head_of s.now)) }
+#[tactic(auto, unfolding(crate::specs::Code::rule_of, crate::specs::Head::head_of), using(crate::proofs::HeadLaws::bad_length_is, crate::proofs::ElementLaws::tail_is))]
+fn fault(m: &[u8], at: usize, level: bool) -> Run
+    requires { at < length m.now }
+    ensures { check_of result ≡ fault_of at (rule_of level (head_of (drop at m.now))) }
 {
+    let s = &m[at..];
     if !tag_ok(s[0]) {
         return Run::BadTag(Offset(at));
     }
@@ -104,10 +105,10 @@ fn elements(m: &[u8], from: usize, depth: u8) -> Run
     while at < m.len() {
         let rest = &m[at..];
         if depth == 0 {
-            return fault(rest, at, false);
+            return fault(m, at, false);
         }
         let Head::Whole { tag, start, len } = head::read_length(rest) else {
-            return fault(rest, at, true);
+            return fault(m, at, true);
         };
         match kind_with(tag, &rest[start..start + len]) {
             Kind::Primitive => at += start + len,
@@ -119,7 +120,7 @@ fn elements(m: &[u8], from: usize, depth: u8) -> Run
                     found => return found,
                 }
             }
-            Kind::Faulty => return fault(rest, at, true),
+            Kind::Faulty => return fault(m, at, true),
         }
     }
     Run::Sound(at)

@@ -7,7 +7,7 @@ use mathlib.Core.Path.{◌∙◌, refl, sym, ap}
 use Rattle.der.specs.Code.{fault_of}
 use Rattle.der.proofs.HeadLaws.{length_whole_in}
 use Rattle.der.proofs.KindLaws.{no_level, no_length, by_kind}
-use Rattle.der.proofs.ElementLaws.{at_faulty, primitive_in, after_primitive, constructed_in, after_sound, at_fault, no_end, check-end}
+use Rattle.der.proofs.ElementLaws.{tail_is, at_faulty, primitive_in, after_primitive, constructed_in, after_sound, at_fault, no_end, check-end}
 use Rattle.der.proofs.element.+elements.Goals as goal
 
 pub overflow_add-at : goal.overflow_add-at
@@ -66,15 +66,15 @@ returns-in_default-elements t c = record {
 
 pub returns-then-depth-eq0-clause-checked : goal.returns-then-depth-eq0-clause-checked
 returns-then-depth-eq0-clause-checked t c =
-    c.fault.ensures ∙ at_faulty c.args.depth c.args.m.now c.loop-at.at c.loop-at-test.true c.loop-at.invariant.1 (no_level c.args.depth _ c.if-depth-eq0.true)
+    rw (← tail_is c.args.m.now c.loop-at.at) at c.fault.ensures ∙ at_faulty c.args.depth c.args.m.now c.loop-at.at c.loop-at-test.true c.loop-at.invariant.1 (no_level c.args.depth _ c.if-depth-eq0.true)
 
 pub returns-in_default-clause-checked : goal.returns-in_default-clause-checked
 returns-in_default-clause-checked t c =
-    c.fault-in_default.ensures ∙ at_faulty c.args.depth c.args.m.now c.loop-at.at c.loop-at-test.true c.loop-at.invariant.1 (no_length c.args.depth _ c.in_default.ensures)
+    rw (← tail_is c.args.m.now c.loop-at.at) at c.fault-in_default.ensures ∙ at_faulty c.args.depth c.args.m.now c.loop-at.at c.loop-at-test.true c.loop-at.invariant.1 (no_length c.args.depth _ c.in_default.ensures)
 
 pub returns-in-Faulty-clause-checked : goal.returns-in-Faulty-clause-checked
 returns-in-Faulty-clause-checked t c =
-    c.fault-in-Faulty.ensures ∙ at_faulty c.args.depth c.args.m.now c.loop-at.at c.loop-at-test.true c.loop-at.invariant.1 (by_kind c.args.depth _ c.if-depth-eq0.false c.in-Whole.ensures c.in-Faulty.ensures)
+    rw (← tail_is c.args.m.now c.loop-at.at) at c.fault-in-Faulty.ensures ∙ at_faulty c.args.depth c.args.m.now c.loop-at.at c.loop-at-test.true c.loop-at.invariant.1 (by_kind c.args.depth _ c.if-depth-eq0.false c.in-Whole.ensures c.in-Faulty.ensures)
 
 pub returns-clause-checked : goal.returns-clause-checked
 returns-clause-checked t c =
