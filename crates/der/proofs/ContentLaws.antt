@@ -1,15 +1,15 @@
 -- Laws of an OBJECT IDENTIFIER's arcs, for the loop over its bytes.
 use Prim.Native.Nat.{ℕ, suc, ◌+◌, ◌-◌, ◌<◌, ◌≤◌}
-use mathlib.Core.Path.{◌≡◌, ◌∙◌, refl, sym, ap}
-use native.Mathlib.Nat.{add-sub_cancel, le_of_eq, lt_irrefl}
+use mathlib.Core.Path.{◌≡◌, ◌∙◌, refl, sym}
+use native.Mathlib.Nat.{lt_irrefl}
 use native.Mathlib.Omega.{arith}
-use borrow.Author.Tests.{eq-eqb, ne_eqb, eqb-true, eqb-false, leb-true, leb-false}
+use borrow.Author.Tests.{ne_eqb}
 use mathlib.Core.List.{List, [], ◌∷◌}
-use mathlib.Core.Bool.{Bool, true, false, not, cond, ◌&&◌, ◌||◌, and-false}
+use mathlib.Core.Bool.{Bool, true, false, ◌&&◌, and-false}
 use native.Mathlib.Numerals.{add-one, sub-one}
 use lib.ListN.{length, get_or, drop, drop_of_length-le}
 use lib.Seq.{drop-cons}
-use lib.Dec.{ltb, leb, eqb}
+use lib.Dec.{ltb, eqb}
 use Rattle.std.specs.List.{list_any}
 use Rattle.der.specs.Content.{arcs_ok, oid_ok}
 use Rattle.der.proofs.Auto.{or_false_left, or_false_right}

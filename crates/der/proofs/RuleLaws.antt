@@ -1,8 +1,6 @@
 -- The rules that a fault of DER names: 1 to 4.
-use Prim.Native.Nat.{ℕ, zero, suc, ◌+◌, ◌-◌, ◌*◌, ◌/◌, ◌%◌, ◌<◌, ◌≤◌}
-use mathlib.Core.Path.{◌≡◌, refl, subst}
-use native.Mathlib.Omega.{arith}
-use borrow.Author.Tests.{lt-ltb, le-ltb}
+use Prim.Native.Nat.{ℕ, zero, suc, ◌+◌, ◌-◌, ◌*◌, ◌≤◌}
+use mathlib.Core.Path.{◌≡◌, subst}
 use mathlib.Core.List.{List, [], ◌∷◌}
 use mathlib.Core.Bool.{◌&&◌, ◌||◌, not}
 use lib.ListN.{length, get_or, take, drop}
@@ -16,7 +14,7 @@ use Rattle.der.specs.declared.element.Check.{Check}
 use Rattle.der.specs.declared.element.Check.TheVariants.{Sound, Fault}
 use Rattle.der.specs.Head.{tag_ok, inside, length81, length82, length_of, head_of}
 use Rattle.der.specs.Content.{content_ok}
-use Rattle.der.specs.Element.{max_depth, constructed, form_ok, judge, element_of, size_of, and_then, with_content, each_element, content_at, check_at, check, is_sound}
+use Rattle.der.specs.Element.{max_depth, constructed, form_ok, judge, element_of, size_of, and_then, with_content, each_element, content_at, check_at, check}
 use Rattle.der.proofs.HeadLaws.{cond-case}
 
 abbrev pub Rule : ℕ → Type 0

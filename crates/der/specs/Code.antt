@@ -1,7 +1,6 @@
 -- Definitions that only follow the code: tests in the order in which it makes them, and what it hands from function to function. What
 -- they mean is proved in proofs/ (HeadLaws, KindLaws and ElementLaws); a reader of the paper need not look at them.
 use Rattle.std.specs.Prelude.{ℕ, ◌+◌, ◌*◌, List, Bool, cond, ◌&&◌, ◌≡◌}
-use Rattle.der.specs.declared.Offset.{Offset}
 use Rattle.der.specs.declared.head.Head.{Head}
 use Rattle.der.specs.declared.head.Head.TheVariants.{Bad, Whole}
 use Rattle.der.specs.declared.element.Check.{Check}

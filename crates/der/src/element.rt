@@ -11,7 +11,8 @@ use crate::head::{self, Head, tag_ok};
 // At most so many elements deep, the message being depth 1.
 pub const MAX_DEPTH: u8 = 16;
 
-// One element by itself, what it holds not looked into.
+// One element by itself, its content not looked into: a type of the definitions. The code has `Kind`, which names no rule: of a sound
+// element none is asked.
 #[derive(Clone, Copy)]
 pub enum Element {
     // its size, tag and length included

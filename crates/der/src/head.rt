@@ -42,7 +42,12 @@ pub(crate) fn read_length(s: &[u8]) -> Head
         // 81 xx: 128 to 255
         [tag, 0x81, len, ..] if 128 <= *len => inside(s.len(), *tag, 3, usize::from(*len)),
         // 82 xx xx: 256 up
-        [tag, 0x82, high, low, ..] if *high != 0 => inside(s.len(), *tag, 4, usize::from(*high) * 256 + usize::from(*low)),
+        [tag, 0x82, high, low, ..] if *high != 0 => inside(
+            s.len(),
+            *tag,
+            4,
+            usize::from(*high) * 256 + usize::from(*low),
+        ),
         _ => Head::Bad(2),
     }
 }

@@ -18,7 +18,11 @@ fn shift_in(first: u64, s: &[u8]) -> u32
 fn of_byte(x: u8) -> u32
     ensures { result ≡ shift_in (cond (leb 128 x) 4294967295 0) (x ∷ []) }
 {
-    if x < 128 { u32::from(x) } else { 4294967040 + u32::from(x) }
+    if x < 128 {
+        u32::from(x)
+    } else {
+        4294967040 + u32::from(x)
+    }
 }
 
 // A number in two's complement, as its low 32 bits; 0 where there is no byte. Most have one, which is no loop's work.

@@ -1,6 +1,5 @@
-use mathlib.Core.Path.{◌∙◌, sym}
+use mathlib.Core.Path.{sym}
 use mathlib.Core.Bool.{and-false}
-use native.Mathlib.Omega.{arith}
 use borrow.Author.Tests.{ne_eqb}
 use Rattle.der.proofs.ContentLaws.{arc_more, arc_bad, arc_end}
 use Rattle.der.proofs.content.arcs_ok.Goals as goal

@@ -1,11 +1,8 @@
 -- A round of the loop: what the element there is, and that the loop goes on past it or answers its fault.
-use Prim.Native.Nat.{◌+◌, ◌-◌}
+use Prim.Native.Nat.{◌+◌}
 use native.Mathlib.Omega.{arith}
-use lib.ListN.{length, take, drop, length-drop, length-take}
 use lib.Seq.{length-take-le}
-use mathlib.Core.Path.{◌∙◌, refl, sym, ap}
-use Rattle.der.specs.Code.{fault_of}
-use Rattle.der.proofs.HeadLaws.{length_whole_in}
+use mathlib.Core.Path.{◌∙◌, refl, sym}
 use Rattle.der.proofs.KindLaws.{no_level, no_length, by_kind}
 use Rattle.der.proofs.ElementLaws.{tail_is, at_faulty, primitive_in, after_primitive, constructed_in, after_sound, at_fault, no_end, check-end}
 use Rattle.der.proofs.element.+elements.Goals as goal
