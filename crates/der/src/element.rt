@@ -46,7 +46,7 @@ enum Kind {
     Faulty,
 }
 
-// The most frequent tags come first.
+// The most frequent tags come first: tried with the tests of the definition in their order, and too slow.
 #[tactic(auto, unfolding(crate::specs::Code::kind_of, crate::specs::Head::tag_ok, crate::specs::Element::form_ok, crate::specs::Content::content_ok))]
 fn kind_with(tag: u8, c: &[u8]) -> Kind
     ensures { result ≡ kind_of tag c.now }
@@ -66,7 +66,8 @@ fn kind_with(tag: u8, c: &[u8]) -> Kind
     }
 }
 
-// What the check of a run of elements finds: its end where all are sound, else the first fault by its rule, and where it is.
+// What the check of a run of elements finds: its end where all are sound, else the first fault by its rule, and where it is. A `Check`,
+// which has three fields, would be returned through memory: tried, a fifth more instructions for a message.
 #[derive(Clone, Copy)]
 enum Run {
     Sound(usize),

@@ -64,7 +64,8 @@ pub fn read(s: &[u8]) -> Head
     }
 }
 
-// Tag and length as one number: the content's length times 8, and the bytes that tag and length take; 0 where they are bad.
+// Tag and length as one number: the content's length times 8, and the bytes that tag and length take; 0 where they are bad. `read` says
+// the same as a `Head`; the clause of this public function is kept for the crates above, whose definitions name the number.
 pub fn packed(s: &[u8]) -> usize
     ensures { result ≡ packed_of (head_of s.now) }
 {
