@@ -4,11 +4,10 @@ use Prim.Native.Nat.{ℕ, zero, suc, ◌+◌, ◌-◌, ◌<◌, ◌≤◌}
 use mathlib.Core.Path.{◌≡◌, refl, sym, ◌∙◌, ap, subst}
 use mathlib.Core.List.{List, [], ◌∷◌}
 use mathlib.Core.Bool.{Bool, true, false, not, ◌&&◌}
-use mathlib.Core.Logic.{◌⊎◌, ⊎_elim}
 use native.Mathlib.Nat.{lt_irrefl, add-zero, add_assoc, add-sub_cancel_left, sub-zero, zero-sub, suc-sub-suc}
 use native.Mathlib.Numerals.{sub-one}
 use native.Mathlib.Omega.{arith}
-use borrow.Author.Tests.{eq-eqb, ne_eqb, eqb-false, not-true}
+use borrow.Author.Tests.{eqb-false, not-true}
 use lib.ListN.{length, take, drop, length-drop, length-take, drop_of_length-le}
 use lib.Seq.{drop-drop, take_all, take-nil}
 use lib.Dec.{eqb, lit≤, T}
@@ -16,11 +15,12 @@ use Rattle.der.specs.declared.Offset.{Offset}
 use Rattle.der.specs.Types.{Head, Check, fault_by}
 use Rattle.der.specs.declared.element.Element.{Element}
 use Rattle.der.specs.declared.element.Element.TheVariants.{Primitive, Constructed, Faulty}
+use Rattle.der.specs.declared.element.Run.{Run}
+use Rattle.der.specs.declared.element.Run.TheVariants.{Sound as RunSound, BadTag, BadLength, BadForm, BadContent}
 use Rattle.der.specs.Head.{head_of}
 use Rattle.der.specs.Content.{content_ok}
 use Rattle.der.specs.Element.{constructed, form_ok, judge, element_of, size_of, and_then, with_content, each_element, content_at, check_at}
-use Rattle.der.specs.Code.{faults, answer_of}
-use Rattle.der.proofs.KindLaws.{of_kind}
+use Rattle.der.specs.Code.{check_of, EndsAt}
 use Rattle.der.proofs.HeadLaws.{HeadIn, head_in_lem, cond-case, cond_both}
 
 -- an element takes at least two bytes and ends inside; a constructed one has a level left
@@ -81,82 +81,6 @@ unfolding check_at each_element
 nothing-more d b (Ok _) = refl
 nothing-more d b (Err ft) = refl
 
--- where the loop is at i, with what the element there was found to be; `whole` is the check of all
-module _ (d : ℕ) (s : List ℕ) (b i : ℕ) {whole : Check} {r : Element} (is : r ≡ element_of d (drop i s)) (here : i < length s) (so_far : whole ≡ check_at d (b + i) (drop i s)) where
-  left : 0 < length (drop i s)
-  left = rw length-drop (omega arith)
-
-  primitive_in : {k : ℕ} → r ≡ Primitive k → (2 ≤ k) × (i + k ≤ length s)
-  unfolding ElementIn
-  primitive_in e = let w = subst (ElementIn d (length (drop i s))) (sym is ∙ e) (element_in d (drop i s)) in omega (arith, length-drop i s)
-
-  constructed_in : {start len : ℕ} → r ≡ Constructed start len → (2 ≤ start) × (i + start + len ≤ length s) × (0 < d)
-  unfolding ElementIn
-  constructed_in e = let w = subst (ElementIn d (length (drop i s))) (sym is ∙ e) (element_in d (drop i s)) in omega (arith, length-drop i s)
-
-  pub at_faulty : {rule : ℕ} → r ≡ Faulty rule → whole ≡ fault_by (record { 0 = b + i }) rule
-  at_faulty e = so_far ∙ first-is d (b + i) (drop i s) (sym is ∙ e) left (lit≤ tt)
-
-  at-primitive : {k : ℕ} → r ≡ Primitive k → whole ≡ check_at d (b + (i + k)) (drop (i + k) s)
-  at-primitive {k} e =
-      so_far ∙ first-is d (b + i) (drop i s) (sym is ∙ e) left (omega (arith, primitive_in e))
-      ∙ rw (drop-drop k i s, add_assoc b i k)
-
-  at-constructed : {start len : ℕ} → r ≡ Constructed start len → whole ≡ and_then (check_at (d - 1) (b + (i + start)) (take len (drop (i + start) s))) (check_at d (b + (i + start + len)) (drop (i + start + len) s))
-  at-constructed {start} {len} e =
-      so_far ∙ first-is d (b + i) (drop i s) (sym is ∙ e) left (omega (arith, constructed_in e))
-      ∙ rw (content-check d (b + i + start) (take len (drop start (drop i s))) (constructed_in e).2, drop-drop start i s, drop-drop (start + len) i s) (simp add_assoc)
-
-  -- with what the call on its content, `&s[a..e]`, answered
-  module _ {start len : ℕ} (e : r ≡ Constructed start len) {inner : Check} (calls : inner ≡ check_at (d - 1) (b + (i + start)) (take (i + start + len - (i + start)) (drop (i + start) s))) where
-    called : whole ≡ and_then inner (check_at d (b + (i + start + len)) (drop (i + start + len) s))
-    called = at-constructed e ∙ sym (ap (λ (v : Check). and_then v (check_at d (b + (i + start + len)) (drop (i + start + len) s))) (simp add-sub_cancel_left at calls))
-
-    at_sound : inner ≡ (Ok tt) → whole ≡ check_at d (b + (i + start + len)) (drop (i + start + len) s)
-    at_sound f = called ∙ ap (λ (v : Check). and_then v (check_at d (b + (i + start + len)) (drop (i + start + len) s))) f
-
-    at-fault : {at : Offset} {rule : ℕ} → inner ≡ fault_by at rule → inner ≡ whole
-    at-fault f = f ∙ sym (called ∙ ap (λ (v : Check). and_then v (check_at d (b + (i + start + len)) (drop (i + start + len) s))) f)
-
--- ---- the same by the element's kind, a number
-
--- the element at i has its content `len` bytes from i + start on and is of kind k; `whole` is the check of all
-pub record Found (d : ℕ) (s : List ℕ) (b i start len k : ℕ) (whole : Check) : Type 0 where
-  pub is : element_of d (drop i s) ≡ of_kind d (drop i s) start len k
-  pub here : i < length s
-  pub so_far : whole ≡ check_at d (b + i) (drop i s)
-
-module _ {d : ℕ} {s : List ℕ} {b i start len k : ℕ} {whole : Check} (f : Found d s b i start len k whole) where
-  module _ (sound : k ≡ 2 → ⊥) where
-    as_primitive : k ≡ 0 → of_kind d (drop i s) start len k ≡ Primitive (start + len)
-    as_primitive e = simp (ne_eqb k 2 sound, eq-eqb k 0 e)
-
-    as_constructed : (k ≡ 0 → ⊥) → of_kind d (drop i s) start len k ≡ Constructed start len
-    as_constructed n = simp (ne_eqb k 2 sound, ne_eqb k 0 n)
-
-    -- a primitive one: the loop goes on behind it
-    pub ends_in_lem : k ≡ 0 → (0 < start + len) × (i + start + len ≤ length s)
-    ends_in_lem e = omega (arith, primitive_in d s b i (sym f.is) f.here f.so_far (as_primitive e))
-
-    pub goes_on : k ≡ 0 → whole ≡ check_at d (b + (i + start + len)) (drop (i + start + len) s)
-    goes_on e = at-primitive d s b i (sym f.is) f.here f.so_far (as_primitive e) ∙ rw (← add_assoc i start len)
-
-    -- a constructed one
-    module _ (n : k ≡ 0 → ⊥) where
-      pub holds_in : (0 < start) × (i + start + len ≤ length s) × (0 < d)
-      holds_in = omega (arith, constructed_in d s b i (sym f.is) f.here f.so_far (as_constructed n))
-
-      module _ {inner : Check} (calls : inner ≡ check_at (d - 1) (b + (i + start)) (take (i + start + len - (i + start)) (drop (i + start) s))) where
-        pub goes_past : inner ≡ (Ok tt) → whole ≡ check_at d (b + (i + start + len)) (drop (i + start + len) s)
-        goes_past e = at_sound d s b i (sym f.is) f.here f.so_far (as_constructed n) calls e
-
-        pub hands_on : {at : Offset} {rule : ℕ} → inner ≡ fault_by at rule → inner ≡ whole
-        hands_on e = at-fault d s b i (sym f.is) f.here f.so_far (as_constructed n) calls e
-
-pub check-end : (d b : ℕ) (s : List ℕ) (i : ℕ) {whole : Check} → length s ≤ i → whole ≡ check_at d (b + i) (drop i s) → (Ok tt) ≡ whole
-unfolding check_at each_element
-check-end d b s i h e = sym (e ∙ rw (drop_of_length-le s h))
-
 -- ---- parts of the bytes up to an end
 
 pub drop-take : (k n : ℕ) (l : List ℕ) → drop k (take n l) ≡ take (n - k) (drop k l)
@@ -169,11 +93,70 @@ drop-take (suc k) (suc n) (x ∷ l) = drop-take k n l ∙ ap (λ (j : ℕ). take
 pub up_to : (m : List ℕ) (i end : ℕ) → take (end - i) (drop i m) ≡ drop i (take end m)
 up_to m i end = sym (drop-take i end m)
 
--- a call's answer is its end or above
-pub answer_above : (end : ℕ) (v : Check) {r : ℕ} → end < faults → r ≡ answer_of end v → end ≤ r
-unfolding answer_of
-answer_above end (Ok _) h e = omega arith
-answer_above end (Err ft) h e = omega arith
+-- where the loop is at i, and what is checked so far is sound; `whole` is the check of all
+module _ (d : ℕ) (s : List ℕ) (i : ℕ) {whole : Check} (here : i < length s) (so_far : whole ≡ check_at d i (drop i s)) where
+  left : 0 < length (drop i s)
+  left = rw length-drop (omega arith)
+
+  -- the element that `&s[i..]` begins with
+  there : {o : Element} → o ≡ element_of d (take (length s - i) (drop i s)) → element_of d (drop i s) ≡ o
+  there e = sym (rw (tail_is s i) at e)
+
+  pub at_faulty : {rule : ℕ} → Faulty rule ≡ element_of d (take (length s - i) (drop i s)) → fault_by (record { 0 = i }) rule ≡ whole
+  at_faulty e = sym (so_far ∙ first-is d i (drop i s) (there e) left (lit≤ tt))
+
+  module _ {size : ℕ} (e : Primitive size ≡ element_of d (take (length s - i) (drop i s))) where
+    pub primitive_in : (2 ≤ size) × (i + size ≤ length s)
+    unfolding ElementIn
+    primitive_in =
+        let w = subst (ElementIn d (length (drop i s))) (there e) (element_in d (drop i s)) in omega (arith, length-drop i s)
+
+    pub after_primitive : whole ≡ check_at d (i + size) (drop (i + size) s)
+    after_primitive = so_far ∙ first-is d i (drop i s) (there e) left (omega (arith, primitive_in)) ∙ rw (drop-drop size i s) refl
+
+  module _ {start len : ℕ} (e : Constructed start len ≡ element_of d (take (length s - i) (drop i s))) where
+    pub constructed_in : (2 ≤ start) × (i + start + len ≤ length s) × (0 < d)
+    unfolding ElementIn
+    constructed_in =
+        let w = subst (ElementIn d (length (drop i s))) (there e) (element_in d (drop i s)) in omega (arith, length-drop i s)
+
+    with_rest : Check → Check
+    with_rest v = and_then v (check_at d (i + start + len) (drop (i + start + len) s))
+
+    by_content : whole ≡ with_rest (check_at (d - 1) (i + start) (take len (drop (i + start) s)))
+    unfolding with_rest
+    by_content =
+        so_far ∙ first-is d i (drop i s) (there e) left (omega (arith, constructed_in))
+        ∙ rw (content-check d (i + start) (take len (drop start (drop i s))) constructed_in.2, drop-drop start i s, drop-drop (start + len) i s) (simp add_assoc)
+
+    -- with what the call on its content answered
+    module _ {inner : Check} (calls : inner ≡ check_at (d - 1) (i + start) (drop (i + start) (take (i + start + len) s))) where
+      called : whole ≡ with_rest inner
+      called = by_content ∙ sym (ap with_rest (rw (← up_to s (i + start) (i + start + len), add-sub_cancel_left (i + start) len) at calls))
+
+      pub after_sound : inner ≡ (Ok tt) → whole ≡ check_at d (i + start + len) (drop (i + start + len) s)
+      unfolding with_rest
+      after_sound f = called ∙ ap with_rest f
+
+      pub at_fault : (v : Run) → check_of v ≡ inner → ((end : ℕ) → v ≡ RunSound end → ⊥) → check_of v ≡ whole
+      unfolding with_rest
+      at_fault (RunSound end) q n = absurd (n end refl)
+      at_fault (BadTag at) q n = sym (called ∙ ap with_rest (sym q))
+      at_fault (BadLength at) q n = sym (called ∙ ap with_rest (sym q))
+      at_fault (BadForm at) q n = sym (called ∙ ap with_rest (sym q))
+      at_fault (BadContent at) q n = sym (called ∙ ap with_rest (sym q))
+
+-- nothing is said of the end of what is not sound
+pub no_end : (n : ℕ) (v : Run) → ((end : ℕ) → v ≡ RunSound end → ⊥) → EndsAt n v
+no_end n (RunSound end) q = absurd (q end refl)
+no_end n (BadTag at) q = tt
+no_end n (BadLength at) q = tt
+no_end n (BadForm at) q = tt
+no_end n (BadContent at) q = tt
+
+pub check-end : (d : ℕ) (s : List ℕ) (i : ℕ) {whole : Check} → length s ≤ i → whole ≡ check_at d i (drop i s) → (Ok tt) ≡ whole
+unfolding check_at each_element
+check-end d s i h e = sym (e ∙ rw (drop_of_length-le s h))
 
 -- ---- a fault lies inside the bytes that were checked
 unfoldable pub FaultIn : ℕ → ℕ → Check → Type 0
@@ -214,13 +197,3 @@ content_in_lem (suc d) b s = run_in (content_at d) (content_in_lem d) d 0 b s
 pub fault_in : (d b : ℕ) (s : List ℕ) {at : Offset} {rule : ℕ} → check_at d b s ≡ fault_by at rule → (b ≤ at.0) × (at.0 < b + length s)
 unfolding check_at FaultIn
 fault_in d b s e = subst (FaultIn b (length s)) e (run_in (content_at d) (content_in_lem d) d 0 b s)
-
--- ---- the loop over a run of elements
-
--- the loop stands at an element, and what is left decides; or it is at a fault's number
-abbrev pub Stands : List ℕ → ℕ → ℕ → ℕ → Type 0
-Stands m from depth i =
-    ((i ≤ length m) × (check_at depth from (drop from m) ≡ check_at depth (0 + i) (drop i m))) ⊎ ((length m < i) × (i ≡ answer_of (length m) (check_at depth from (drop from m))))
-
-pub standing : (m : List ℕ) (from depth i : ℕ) → i < length m → Stands m from depth i → check_at depth from (drop from m) ≡ check_at depth (0 + i) (drop i m)
-standing m from depth i here w = ⊎_elim (λ v. v.1) (λ v. absurd (omega (arith, v.0, here))) w

@@ -5,5 +5,4 @@ pub mod KindLaws
 pub mod ElementLaws
 pub mod OneForm
 pub mod RuleLaws
-pub mod FirstLaws
 pub mod IntegerLaws

@@ -1,9 +1,7 @@
 -- The rules that a fault of DER names: 1 to 4.
 use Rattle.std.specs.Prelude.{Ok, Err}
-use Prim.Native.Nat.{ℕ, zero, suc, ◌+◌, ◌-◌, ◌*◌, ◌/◌, ◌%◌, ◌<◌, ◌≤◌}
-use mathlib.Core.Path.{◌≡◌, refl, subst}
-use native.Mathlib.Omega.{arith}
-use borrow.Author.Tests.{lt-ltb, le-ltb}
+use Prim.Native.Nat.{ℕ, zero, suc, ◌+◌, ◌-◌, ◌*◌, ◌≤◌}
+use mathlib.Core.Path.{◌≡◌, subst}
 use mathlib.Core.List.{List, [], ◌∷◌}
 use mathlib.Core.Bool.{◌&&◌, ◌||◌, not}
 use lib.ListN.{length, get_or, take, drop}
@@ -14,9 +12,8 @@ use Rattle.der.specs.declared.element.Element.{Element}
 use Rattle.der.specs.declared.element.Element.TheVariants.{Primitive, Constructed, Faulty}
 use Rattle.der.specs.Head.{tag_ok, inside, length81, length82, length_of, head_of}
 use Rattle.der.specs.Content.{content_ok}
-use Rattle.der.specs.Element.{max_depth, constructed, form_ok, judge, element_of, size_of, and_then, with_content, each_element, content_at, check_at, check, is_sound}
-use Rattle.der.specs.Code.{faults, answer_of}
-use Rattle.der.proofs.HeadLaws.{cond-case, unpacked}
+use Rattle.der.specs.Element.{max_depth, constructed, form_ok, judge, element_of, size_of, and_then, with_content, each_element, content_at, check_at, check}
+use Rattle.der.proofs.HeadLaws.{cond-case}
 
 abbrev pub Rule : ℕ → Type 0
 Rule rule = (1 ≤ rule) × (rule ≤ 4)
@@ -97,33 +94,3 @@ content_rule (suc d) b s = run_rule (content_at d) (content_rule d) d 0 b s
 pub check_rule : (s : List ℕ) {at : Offset} {rule : ℕ} → check s ≡ fault_by at rule → Rule rule
 unfolding check check_at CheckRule
 check_rule s e = subst CheckRule e (run_rule (content_at max_depth) (content_rule max_depth) max_depth 0 0 s)
-
-check_rules : (d b : ℕ) (s : List ℕ) → CheckRule (check_at d b s)
-unfolding check_at CheckRule
-check_rules d b s = run_rule (content_at d) (content_rule d) d 0 b s
-
-sound_of : (end : ℕ) (v : Check) {r : ℕ} → r ≡ answer_of end v → r < faults → v ≡ (Ok tt)
-unfolding answer_of
-sound_of end (Ok _) e h = refl
-sound_of end (Err ft) e h = absurd (omega arith)
-
-fault_of_lem : (end : ℕ) (v : Check) → CheckRule v → end < faults → {r : ℕ} → r ≡ answer_of end v → faults ≤ r → v ≡ fault_by (record { 0 = (r - faults) / 8 }) ((r - faults) % 8)
-unfolding answer_of CheckRule
-fault_of_lem end (Ok _) w h e n = absurd (omega arith)
-fault_of_lem end (Err ft) w h {r} e n =
-    let u = unpacked ft.rule ft.at.0 {p = r - faults} (omega arith) (omega arith) in rw (u.0, u.1) refl
-
-test_of : (end : ℕ) (v : Check) → end < faults → {r : ℕ} → r ≡ answer_of end v → ltb r faults ≡ is_sound v
-unfolding answer_of
-test_of end (Ok _) h {r} e = lt-ltb r faults (omega arith)
-test_of end (Err ft) h {r} e = le-ltb r faults (omega arith)
-
--- what the number of a check says
-pub answer_sound : (end d b : ℕ) (s : List ℕ) {r : ℕ} → r ≡ answer_of end (check_at d b s) → r < faults → check_at d b s ≡ (Ok tt)
-answer_sound end d b s e h = sound_of end (check_at d b s) e h
-
-pub answer-fault : (end d b : ℕ) (s : List ℕ) {r : ℕ} → end < faults → r ≡ answer_of end (check_at d b s) → faults ≤ r → check_at d b s ≡ fault_by (record { 0 = (r - faults) / 8 }) ((r - faults) % 8)
-answer-fault end d b s h e n = fault_of_lem end (check_at d b s) (check_rules d b s) h e n
-
-pub answer_test : (end d b : ℕ) (s : List ℕ) {r : ℕ} → end < faults → r ≡ answer_of end (check_at d b s) → ltb r faults ≡ is_sound (check_at d b s)
-answer_test end d b s h e = test_of end (check_at d b s) h e

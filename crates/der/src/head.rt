@@ -1,7 +1,6 @@
 // Tag and length of an element: points 1 and 2 of document 01, "DER as we take it".
-ghost use Rattle.std.specs.Prelude.{◌≡◌, ◌<◌, ltb};
-ghost use Rattle.der.specs.Head.{byte, tag_ok, length_of, head_of};
-ghost use Rattle.der.specs.Code.{fit_of, packed_of, broken_rule};
+ghost use Rattle.std.specs.Prelude.{◌≡◌, ◌+◌, ◌^◌, ◌<◌};
+ghost use Rattle.der.specs.Head.{tag_ok, inside, length_of, head_of};
 
 // The head of an element whose content is `len` bytes from `start`.
 #[derive(Clone, Copy)]
@@ -14,125 +13,56 @@ pub struct Whole {
 // Tag and length of an element, or the rule that they break.
 pub type Head = Result<Whole, u8>;
 
-// A byte as a number to count with.
-pub(crate) fn wide(x: u8) -> usize
-    ensures { (result ≡ x) × (result < 256) }
-{
-    x as usize
-}
-
-// Whether a tag may stand: one byte (the number 31 would say that more follow), and not the universal tag 0, which is below 64.
+// Whether a tag may stand: one byte (the number 31 would say that more follow), and not the universal tag 0, primitive or constructed.
+#[tactic(auto, unfolding(crate::specs::Head::tag_ok))]
 pub fn tag_ok(t: u8) -> bool
     ensures { result ≡ tag_ok t }
 {
-    let number = t % 32;
-    if number == 31 {
-        return false;
-    }
-    if number == 0 {
-        return 63 < t;
-    }
-    true
+    t % 32 != 31 && !matches!(t, 0x00 | 0x20)
 }
 
-// A head that is whole as one number: its content's length times 8, and how many bytes it takes itself. 0: it is bad.
-fn fit(n: usize, start: usize, len: usize) -> usize
-    requires { (start < 5) × (len < 65536) }
-    ensures { result ≡ fit_of n start len }
+// A head that is read, where its content ends in the `n` bytes that the parent has left.
+#[tactic(auto, unfolding(crate::specs::Head::inside))]
+fn inside(n: usize, tag: u8, start: usize, len: usize) -> Head
+    requires { start + len < 2 ^ 64 }
+    ensures { result ≡ inside n tag start len }
 {
-    if start + len <= n { len * 8 + start } else { 0 }
+    if start + len <= n {
+        Ok(Whole { tag, start, len })
+    } else {
+        Err(2)
+    }
 }
 
-// The bytes that tag and length take where the length is short.
-pub(crate) const SHORT: usize = 2;
-
-// Whether the first byte of a length says that more bytes follow; a short length is that byte itself.
-pub(crate) fn is_long(first: usize) -> bool
-    ensures { result ≡ ltb 127 first }
+// The length alone, the tag not looked at: where the content starts and how long it is, in each of the three forms.
+#[tactic(auto, unfolding(crate::specs::Head::length_of, crate::specs::Head::length81, crate::specs::Head::length82))]
+pub(crate) fn read_length(s: &[u8]) -> Head
+    ensures { result ≡ length_of s.now }
 {
-    127 < first
-}
-
-// The length alone as one number, the tag not looked at: each of the three forms sets where the content starts and how long it is.
-pub(crate) fn read_length(s: &[u8]) -> usize
-    ensures { result ≡ packed_of (length_of s.now) }
-{
-    let n = s.len();
-    if n < SHORT {
-        return 0;
+    match s {
+        // below 128 the length is the one byte
+        [tag, len, ..] if *len < 128 => inside(s.len(), *tag, 2, usize::from(*len)),
+        // 81 xx: 128 to 255
+        [tag, 0x81, len, ..] if 128 <= *len => inside(s.len(), *tag, 3, usize::from(*len)),
+        // 82 xx xx: 256 up
+        [tag, 0x82, high, low, ..] if *high != 0 => inside(
+            s.len(),
+            *tag,
+            4,
+            usize::from(*high) * 256 + usize::from(*low),
+        ),
+        _ => Err(2),
     }
-    let first = wide(s[1]);
-    let mut start = SHORT;
-    let mut len = first;
-    if is_long(first) {
-        if first == 129 {
-            // 81 xx: 128 to 255
-            start = 3;
-            if n < start {
-                return 0;
-            }
-            len = wide(s[2]);
-            if len < 128 {
-                return 0;
-            }
-        } else if first == 130 {
-            // 82 xx xx: 256 up
-            start = 4;
-            if n < start {
-                return 0;
-            }
-            len = wide(s[2]) * 256 + wide(s[3]);
-            if len < 256 {
-                return 0;
-            }
-        } else {
-            return 0;
-        }
-    }
-    fit(n, start, len)
-}
-
-// Tag and length as one number: the content's length times 8, and the bytes that tag and length take; 0 where they are bad.
-pub fn packed(s: &[u8]) -> usize
-    ensures { result ≡ packed_of (head_of s.now) }
-{
-    if s.len() == 0 {
-        return 0;
-    }
-    if tag_ok(s[0]) { read_length(s) } else { 0 }
 }
 
 // Tag and length of the element that `s` begins with; `s` ends where the parent's content does.
+#[tactic(auto, unfolding(crate::specs::Head::head_of))]
 pub fn read(s: &[u8]) -> Head
     ensures { result ≡ head_of s.now }
 {
-    let p = packed(s);
-    if p == 0 {
-        return Err(broken_rule(s));
+    match s {
+        [] => Err(2),
+        [tag, ..] if tag_ok(*tag) => read_length(s),
+        _ => Err(1),
     }
-    Ok(Whole {
-        tag: first_byte(s),
-        start: p % 8,
-        len: p / 8,
-    })
-}
-
-// The first byte; 0, which is no tag, where there is none.
-pub(crate) fn first_byte(s: &[u8]) -> u8
-    ensures { result ≡ byte s.now 0 }
-{
-    if s.len() == 0 {
-        return 0;
-    }
-    s[0]
-}
-
-// The rule that a bad head breaks.
-pub(crate) fn broken_rule(s: &[u8]) -> u8
-    ensures { result ≡ broken_rule s.now }
-{
-    if s.len() == 0 {
-        return 2;
-    }
-    if tag_ok(s[0]) { 2 } else { 1 }
 }
