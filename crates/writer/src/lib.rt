@@ -26,7 +26,7 @@ use given::fits::all_fit;
 use message::MAX_MESSAGE;
 use protocol::Outgoing;
 
-// So many bytes are written, or the call is refused by this number.
+// So many bytes are written, or the call is refused by this number. No enum: `write_answer` has the number.
 pub type Written = Result<usize, u8>;
 
 // The tag of a body. Of a kind above 95 the sum would not fit, and nothing is asked: no such kind is written.
