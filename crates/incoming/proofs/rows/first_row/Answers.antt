@@ -1,5 +1,5 @@
 -- What `find` gives is the first row that applies, and `map` its number.
-use Rattle.std.proofs.Common.{◌≡◌, refl, ◌∙◌, ap, sym, Bool, ℕ, Bor, rules, tests}
+use Rattle.std.proofs.Common.{◌≡◌, ◌∙◌, ap, Bool, ℕ, Bor, rules, tests}
 use Rattle.std.specs.Prelude.{Option, Some, None}
 use Rattle.std.specs.Option.{option_map, MatchOption, IsSomeAnd}
 use Rattle.std.proofs.lemmas.Iterator.{YieldsList-from_slice}
