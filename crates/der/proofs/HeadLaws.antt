@@ -139,12 +139,3 @@ length_two s =
 pub bad_length_is : (s : List ℕ) {rule : ℕ} → Err rule ≡ length_of s → rule ≡ 2
 unfolding IsTwo
 bad_length_is s e = subst IsTwo (sym e) (length_two s)
-
--- ## A head as one number
-
--- the two parts of such a number
-pub unpacked : (start len : ℕ) {p : ℕ} → start < 8 → p ≡ len * 8 + start → (p % 8 ≡ start) × (p / 8 ≡ len)
-unpacked start len small e = (
-  ap (λ (k : ℕ). k % 8) e ∙ mul-add-mod_self_right len 8 start ∙ mod-eq_of_lt small,
-  ap (λ (k : ℕ). k / 8) e ∙ mul-add-div_right (lit< tt) len start ∙ ap (λ (k : ℕ). len + k) (div-eq_of_lt small) ∙ add-zero len,
-)
