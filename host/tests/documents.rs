@@ -37,13 +37,13 @@ fn promises() -> String {
     document("PROMISES.md")
 }
 
-/// The documents but for the landing pages, which say what was there when a request landed, and the pages of the port, which
+/// The documents but for the landing pages, which say what was there when a request landed, and the pages of the port and of the
 /// say what was there before it.
 fn documents() -> impl Iterator<Item = PathBuf> {
     let all = files(&root().join("docs")).into_iter();
     all.filter(|path| {
         let inside = path.strip_prefix(root().join("docs")).expect("of docs/");
-        !["landings", "PORT"]
+        !["landings", "PORT", "DESIGN-PASS"]
             .iter()
             .any(|past| inside.to_string_lossy().starts_with(past))
     })

@@ -6,7 +6,7 @@ use native.Mathlib.Nat.{mul-add-mod_self_right, mod-eq_of_lt, mul-add-div_right,
 use mathlib.Core.List.{List}
 use mathlib.Core.Bool.{Bool, true, false, cond, ◌||◌}
 use native.Mathlib.Omega.{arith}
-use borrow.Author.Tests.{leb-true}
+use borrow.Author.Tests.{leb-true, le-ltb, eq-eqb, ne_eqb}
 use lib.ListN.{length, get_or, take, drop, length-take}
 use lib.Dec.{ltb, leb, eqb, lit≤, lit<}
 use Rattle.der.specs.declared.head.Whole.{Whole}
@@ -139,3 +139,19 @@ length_two s =
 pub bad_length_is : (s : List ℕ) {rule : ℕ} → Err rule ≡ length_of s → rule ≡ 2
 unfolding IsTwo
 bad_length_is s e = subst IsTwo (sym e) (length_two s)
+
+-- ## Two bytes of length: 256 or more exactly where the first is not 0
+
+-- the length is `len`, from `start` on, where so many bytes fit
+unfoldable pub Form : List ℕ → ℕ → ℕ → Type 0
+Form s start len = (start < 5) × (len < 65536) × (length_of s ≡ inside (length s) (byte s 0) start len)
+
+module _ (s : List ℕ) where
+  pub form_82 : length_of s ≡ length82 s → 4 ≤ length s → {a b : ℕ} → (a ≡ byte s 2) × (a < 256) → (b ≡ byte s 3) × (b < 256) → 256 ≤ a * 256 + b → Form s 4 (a * 256 + b)
+  unfolding length82 Form
+  form_82 e four q r h =
+      (lit< tt, omega (arith, q.1, r.1), rw (q.0, r.0) (simp (e, le-ltb (length s) 4 four, ne_eqb (byte s 2) 0 (λ z. omega (arith, z, q.0, r.1, h)))))
+
+  pub low_82 : length_of s ≡ length82 s → 4 ≤ length s → {a : ℕ} → a ≡ byte s 2 → (b : ℕ) → a * 256 + b < 256 → length_of s ≡ Err 2
+  unfolding length82
+  low_82 e four q b h = simp (e, le-ltb (length s) 4 four, eq-eqb (byte s 2) 0 (omega (arith, q, h)))

@@ -10,6 +10,7 @@ use lib.ListN.{length}
 use lib.Dec.{leb}
 use Rattle.message.specs.Read.{reading_of}
 use Rattle.message.specs.Types.{Reading}
+use Rattle.protocol.specs.Types.{ToSend}
 use Rattle.protocol.specs.declared.TransactionId.{TransactionId}
 use Rattle.protocol.specs.declared.FreshNonce.{FreshNonce}
 use Rattle.protocol.specs.declared.Hash.{Hash}
@@ -106,7 +107,7 @@ module _ (t : TransactionTable) (z : TableSized t) where
     checked_sized m f h (stop k) e =
         record {
           table = z;
-          outgoing = cases OutgoingSized (leb 6 k) _ _ (λ l. let q : NamesSized m = names m f (stop k) e l in record { id = q.0; sender = n; recip = q.1; hash = refl; failure = bit-back k _ }) (λ _. silent_sized);
+          outgoing = cases (λ (o : ToSend). OutgoingSized (sent_or_silent o)) (leb 6 k) _ _ (λ l. let q : NamesSized m = names m f (stop k) e l in record { id = q.0; sender = n; recip = q.1; hash = refl; failure = bit-back k _ }) (λ _. silent_sized);
           outcome = bit-back k _;
           slot = omega arith;
         }

@@ -5,8 +5,8 @@ ghost use Rattle.packed.specs.Places.{answer_fault_at, answer_own_at, fault_part
 ghost use Rattle.packed.specs.Answer.{outcome_number, pack_outcome, pack_fault, slot_byte, registrar_answer_bytes, pack_registrar_answer, end_entity_answer_bytes, pack_end_entity_answer};
 
 use crate::bytes::{put, put_flag};
-use crate::sent::{failure_number, put_outgoing};
 use crate::places;
+use crate::sent::{failure_number, put_outgoing};
 use message::ReadFault;
 use protocol::{EndEntityAnswer, Outcome, RegistrarAnswer, Slot};
 

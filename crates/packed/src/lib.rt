@@ -5,6 +5,6 @@ pub mod answer;
 pub mod arrays;
 mod bytes;
 pub mod enrolment;
-pub mod sent;
 mod places;
+pub mod sent;
 pub mod table;
