@@ -38,7 +38,7 @@ fn promises() -> String {
 }
 
 /// The documents but for the landing pages, which say what was there when a request landed, and the pages of the port and of the
-/// say what was there before it.
+/// design pass, which say what was there before them.
 fn documents() -> impl Iterator<Item = PathBuf> {
     let all = files(&root().join("docs")).into_iter();
     all.filter(|path| {
