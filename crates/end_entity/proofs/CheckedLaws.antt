@@ -23,7 +23,7 @@ use Rattle.protocol.specs.EndEntityRows.{end_entity_rows}
 use Rattle.protocol.specs.EndEntity.{enrolment_refused, enrolment_unread, enrolment_moved, in_state, after_refusal, confirming, end_entity_checked, end_entity_read, end_entity_message}
 use Rattle.protocol.proofs.Tests.{passes}
 use Rattle.parts.specs.Parts.{sixteen_of}
-use Rattle.incoming.specs.Incoming.{number_of}
+use Rattle.incoming.specs.Incoming.{number_of, fault_of}
 use Rattle.parts.proofs.Laws.{copy_is}
 use Rattle.incoming.proofs.RowLaws.{stops_at, passes_all}
 
@@ -77,9 +77,9 @@ answered x d bytes m n e q =
 -- ## The reading taken apart
 
 module _ (x : Enrolment) (d : EndEntityInput) (bytes : List ℕ) {r : Reading} (e : r ≡ reading_of bytes) where
-  pub unread_at : {f : ReadFault} → r ≡ Err f → enrolment_unread f x ≡ end_entity_message x d bytes
+  pub unread_at : {f g : ReadFault} → r ≡ Err f → g ≡ fault_of r → enrolment_unread g x ≡ end_entity_message x d bytes
   unfolding end_entity_message end_entity_read
-  unread_at q = rw (← e, q)
+  unread_at q z = rw (z, ← e, q)
 
   pub read_at : {m : Message} → r ≡ Ok m → end_entity_checked (lowest_row (end_entity_rows x d.good (fields_of bytes m))) x d (fields_of bytes m) ≡ end_entity_message x d bytes
   unfolding end_entity_message end_entity_read

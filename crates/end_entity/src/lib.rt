@@ -16,7 +16,7 @@ use crate::answers::{confirm, done, moved, refused, started, unread};
 use crate::rows::lowest_refusal;
 use crate::states::{assured_state, broken_state, is_awaiting};
 use grammar::Message;
-use incoming::rows::status_or_0;
+use incoming::rows::{fault_of, status_or_0};
 use message::read;
 use parts::nonce_of;
 use protocol::kinds::{ERROR, PKI_CONF, is_response, is_starting_kind};
@@ -89,10 +89,11 @@ fn checked(enrolment: Enrolment, bytes: &[u8], m: Message, input: EndEntityInput
 pub fn message(enrolment: Enrolment, bytes: &[u8], input: EndEntityInput) -> EndEntityAnswer
     ensures { result ≡ end_entity_message enrolment input bytes.now }
 {
-    match read(bytes) {
-        Ok(m) => checked(enrolment, bytes, m, input),
-        Err(fault) => unread(enrolment, fault),
-    }
+    let reading = read(bytes);
+    let Ok(m) = reading else {
+        return unread(enrolment, fault_of(reading));
+    };
+    checked(enrolment, bytes, m, input)
 }
 
 // The host waited long enough.

@@ -2,11 +2,11 @@
 ghost use Rattle.std.specs.Prelude.{◌≡◌, not, map, ◌&&◌, ◌||◌, eqb};
 ghost use Rattle.protocol.specs.Message.{is_present, fields_of, optional_status, status_or0};
 ghost use Rattle.protocol.specs.Refusals.{bit_of, no_fault, read_refusal, lowest_row, head_rows};
-ghost use Rattle.incoming.specs.Incoming.{number_of, row_of};
+ghost use Rattle.incoming.specs.Incoming.{fault_of, number_of, row_of};
 
 use der::Offset;
 use grammar::{Entry, Message};
-use message::ReadFault;
+use message::{ReadFault, Reading};
 use parts::{is_present, not_sixteen};
 use protocol::FailureInfo;
 
@@ -18,6 +18,16 @@ pub fn no_fault() -> ReadFault
         number: 0,
         at: Offset(0),
         rule: 0,
+    }
+}
+
+// The fault that a reading names.
+pub fn fault_of(reading: Reading) -> ReadFault
+    ensures { result ≡ fault_of reading }
+{
+    match reading {
+        Ok(_) => no_fault(),
+        Err(fault) => fault,
     }
 }
 

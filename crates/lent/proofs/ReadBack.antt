@@ -19,7 +19,7 @@ use Rattle.packed.specs.Outgoing.{outgoing_of}
 use Rattle.packed.specs.Answer.{outcome_number, registrar_answer_bytes, end_entity_answer_bytes}
 use Rattle.packed.specs.Table.{pack_table, unpack_table, table_held, TableSized}
 use Rattle.packed.specs.Enrolment.{enrolment_bytes, pack_enrolment, pack_enrolment_in, unpack_enrolment, enrolment_held, EnrolmentSized}
-use Rattle.packed.proofs.AnswerInverse.{registrar_back, end_entity_back, end_entity_outcome_back, end_entity_fault_back, end_entity_sends_back, end_entity_outgoing_back}
+use Rattle.packed.proofs.AnswerInverse.{registrar_back, registrar_outgoing_back, end_entity_back, end_entity_outcome_back, end_entity_fault_back, end_entity_sends_back, end_entity_outgoing_back}
 use Rattle.duskstall.specs.Boundary.{Crossing, registrar_written, registrar_answered, registrar_crossing, end_entity_written, end_entity_answered, end_entity_crossing, start_written, start_crossing}
 use Rattle.duskstall.specs.Calls.{id_of, fresh_of}
 use Rattle.lent.specs.Calls.{registrar_crosses, registrar_answers, end_entity_crosses, end_entity_answers}
@@ -43,7 +43,11 @@ registrar_reads p f s b sized m =
     made_of (λ x. RegistrarReads x a) (is_some (unpack_table s)) p (leb registrar_answer_bytes (length b)) s b (registrar_written a s b)
     (λ o _ r.
     let z : RegistrarSized a = sized (table_held s) (table_sized s o) in
-    record { code = refl; answer = registrar_back a b z.outgoing r z.outcome z.slot _ (held_table _ (table_read a.table z.table (table_in_lem s a.table o))) })
+    record {
+      code = refl;
+      answer = registrar_back a b z.outgoing r z.outcome z.slot _ (held_table _ (table_read a.table z.table (table_in_lem s a.table o)));
+      outgoing = registrar_outgoing_back a b z.outgoing r;
+    })
     m
 
 board-reads : (p : Bool) (f : Enrolment → EndEntityAnswer) (s b : List ℕ) → ((x : Enrolment) → EnrolmentSized x → EndEntitySized (f x))
@@ -54,7 +58,11 @@ board-reads p f s b sized m =
     made_of (λ x. EndEntityReads x a) (is_some (unpack_enrolment s)) p (leb end_entity_answer_bytes (length b)) s b (end_entity_written a s b)
     (λ o _ r.
     let z : EndEntitySized a = sized (enrolment_held s) (enrolment_sized s o) in
-    record { code = refl; answer = end_entity_back a b z.outgoing r z.outcome _ (held_enrolment _ (enrolment_read a.enrolment z.enrolment (enrolment_in_lem s a.enrolment o))) })
+    record {
+      code = refl;
+      answer = end_entity_back a b z.outgoing r z.outcome _ (held_enrolment _ (enrolment_read a.enrolment z.enrolment (enrolment_in_lem s a.enrolment o)));
+      outgoing = end_entity_outgoing_back a b z.outgoing r;
+    })
     m
 
 start-state : (a : EndEntityAnswer) (s : List ℕ) → eqb (length s) enrolment_bytes ≡ true → outcome_number a.outcome ≡ 0

@@ -14,7 +14,7 @@ use Rattle.packed.specs.Table.{table_bytes, table_held}
 use Rattle.packed.specs.Enrolment.{enrolment_held}
 use Rattle.duskstall.specs.Boundary.{Crossing}
 use Rattle.duskstall.specs.Calls.{id_of, fresh_of}
-use Rattle.lent.specs.HeaderPlaces.{end_entity_sends_place, end_entity_outgoing_place}
+use Rattle.lent.specs.HeaderPlaces.{registrar_outgoing_place, end_entity_sends_place, end_entity_outgoing_place}
 use Rattle.lent.specs.Calls.{registrar_answers, end_entity_answers}
 use Rattle.lent.specs.Lent.{LentCall, AtRegistrar, AtEndEntity, EndEntityStart, LentWorld, held_bytes, crossing, is_made, lent_after, lent_beginning}
 use Rattle.lent.specs.Kept.{LentPromise}
@@ -32,14 +32,16 @@ table_in w = table_held w.table
 abbrev pub enrolment_in : LentWorld → ℕ → Enrolment
 enrolment_in w k = enrolment_held (held_bytes (get_elem? w.enrolments k))
 
--- what a call returned, and what it left in the bytes, say the answer
+-- what a call returned, and what it left in the bytes, say the answer; where nothing is to be sent, zeros stand in the message's place
 pub record RegistrarReads (x : Crossing) (a : RegistrarAnswer) : Type 0 where
   pub code : x.code ≡ outcome_number a.outcome
   pub answer : registrar_read_back x ≡ a
+  pub outgoing : outgoing_of (drop registrar_outgoing_place x.answer) ≡ sent_or_silent a.outgoing
 
 pub record EndEntityReads (x : Crossing) (a : EndEntityAnswer) : Type 0 where
   pub code : x.code ≡ outcome_number a.outcome
   pub answer : end_entity_read_back x ≡ a
+  pub outgoing : outgoing_of (drop end_entity_outgoing_place x.answer) ≡ sent_or_silent a.outgoing
 
 -- of a start; one that is refused leaves no enrolment to read
 pub record StartReads (x : Crossing) (a : EndEntityAnswer) : Type 0 where

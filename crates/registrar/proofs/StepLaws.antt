@@ -34,7 +34,7 @@ use Rattle.protocol.proofs.Tests.{passes}
 use Rattle.protocol.specs.Promises.{Applies}
 use Rattle.protocol.proofs.Rows.{least, stops}
 use Rattle.parts.specs.Parts.{sixteen_of}
-use Rattle.incoming.specs.Incoming.{number_of}
+use Rattle.incoming.specs.Incoming.{number_of, fault_of}
 use Rattle.parts.proofs.Laws.{copy_is}
 use Rattle.incoming.proofs.RowLaws.{check_append, or_else, stops_at, passes_all}
 use Rattle.registrar.specs.Steps.{with_at, found_in, found_by, place_in, refusal_answer, confirmation_of, taken_at, Copied}
@@ -213,9 +213,9 @@ module _
 -- ## The reading taken apart
 
 module _ (t : TransactionTable) (d : RegistrarInput) (bytes : List ℕ) {x : Reading} (e : x ≡ reading_of bytes) where
-  pub unread : {f : ReadFault} → x ≡ Err f → refused_reading f t ≡ registrar_message t d bytes
+  pub unread : {f g : ReadFault} → x ≡ Err f → g ≡ fault_of x → refused_reading g t ≡ registrar_message t d bytes
   unfolding registrar_message registrar_read
-  unread q = rw (← e, q)
+  unread q r = rw (r, ← e, q)
 
   pub clean : {m : Message} → x ≡ Ok m → registrar_fields t d (fields_of bytes m) ≡ registrar_message t d bytes
   unfolding registrar_message registrar_read

@@ -14,7 +14,7 @@ use crate::rows::{is_good, later_refusal};
 use crate::slots::{Found, find, free_slot, held_or_free, with_at};
 use crate::states::{is_confirmed, is_granted, settled_state};
 use grammar::Message;
-use incoming::rows::{head_refusal, status_or_0};
+use incoming::rows::{fault_of, head_refusal, status_or_0};
 use message::read;
 use parts::{id_of, nonce_of};
 use protocol::kinds::{CERT_CONF, is_opening_kind};
@@ -143,8 +143,9 @@ fn step(table: TransactionTable, bytes: &[u8], m: Message, input: RegistrarInput
 pub fn message(table: TransactionTable, bytes: &[u8], input: RegistrarInput) -> RegistrarAnswer
     ensures { result ≡ registrar_message table input bytes.now }
 {
-    match read(bytes) {
-        Ok(m) => step(table, bytes, m, input),
-        Err(fault) => refused_reading(fault, table),
-    }
+    let reading = read(bytes);
+    let Ok(m) = reading else {
+        return refused_reading(fault_of(reading), table);
+    };
+    step(table, bytes, m, input)
 }
