@@ -1,13 +1,12 @@
 -- Laws of bytes put into a buffer.
-use Prim.Native.Nat.{ℕ, suc, ◌+◌, ◌-◌, ◌<◌, ◌≤◌}
+use Prim.Native.Nat.{ℕ, suc, ◌+◌, ◌<◌, ◌≤◌}
 use mathlib.Core.List.{List, [], ◌∷◌, ◌++◌}
 use mathlib.Core.Path.{◌≡◌, refl, sym, ◌∙◌, ap, subst}
-use native.Mathlib.Nat.{add-zero, suc-add, add-suc}
+use native.Mathlib.Numerals.{add-one}
+use native.Mathlib.Nat.{add-zero, suc-add, add-suc, le_of_lt}
 use native.Mathlib.Omega.{arith}
-use lib.ListN.{length, take, drop, set, length-append}
-use lib.Seq.{sets, sets-eq, length-sets, take_all}
-use borrow.Rule.Slice.PartMut.{put_mid}
-use Rattle.std.proofs.lemmas.Slice.{put_mid-paste}
+use lib.ListN.{length, take, set, get_or, length-append, length-set}
+use lib.Seq.{sets, length-sets, length-take-le, take-suc, take_all}
 use Rattle.der.specs.Head.{head_bytes}
 use Rattle.encoding.specs.Element.{element}
 use Rattle.writer.specs.Puts.{Put, Puts}
@@ -20,17 +19,27 @@ sets_append l i (x ∷ xs) ys =
     sets_append (set l i x) (suc i) xs ys
     ∙ ap (λ (k : ℕ). sets (sets (set l i x) (suc i) xs) k ys) (suc-add i (length xs) ∙ sym (add-suc i (length xs)))
 
--- ## A copy
+-- ## A copy: the first i bytes of x are in their places
+
+pub record Copied (at : ℕ) (x s₀ s : List ℕ) (i : ℕ) : Type 0 where
+  pub below : i ≤ length x
+  pub is : s ≡ sets s₀ at (take i x)
+  pub size : length s ≡ length s₀
+
+pub copy_more : (x : List ℕ) {at : ℕ} {s₀ s : List ℕ} {i : ℕ} → Copied at x s₀ s i → i < length x → Copied at x s₀ (set s (at + i) (get_or x i 0)) (i + 1)
+copy_more x {at} {s₀} {s} {i} p k = record {
+  below = omega arith;
+  is = rw (p.is, add-one i, take-suc x i 0 k, sets_append s₀ at (take i x) (get_or x i 0 ∷ []), length-take-le i x (le_of_lt k));
+  size = length-set s (at + i) (get_or x i 0) ∙ p.size;
+}
+
+pub copy_all : (x : List ℕ) {at i : ℕ} {s₀ s : List ℕ} → Copied at x s₀ s i → length x ≤ i → Put at (at + length x) x s₀ s
+copy_all x {at} {i} {s₀} p k = record { is = p.is ∙ ap (sets s₀ at) (take_all i x k); end = refl }
 
 module _ (x s : List ℕ) (at : ℕ) where
-  -- the part of s from an offset on is x
-  pub copied : (part : List ℕ) → at + length x ≤ length s → part ≡ x → Puts at (at + length x) x s (put_mid at (at + length x - at) s part)
-  copied part room e =
-      let is : put_mid at (at + length x - at) s part ≡ sets s at x =
-      put_mid-paste at (at + length x - at) s part x (length x) e (omega arith) refl
-      ∙ ap (λ (l : List ℕ). take at s ++ l ++ drop (at + length x) s) (take_all (length x) x (omega arith))
-      ∙ sym (sets-eq x s at room) in
-      record { size = ap length is ∙ length-sets s at x; put = λ room few. record { is = is; end = refl } }
+  -- there is room, and it is put in
+  pub put_in : (r : ℕ) (s' : List ℕ) → Put at r x s s' → Puts at r x s s'
+  put_in r s' p = record { size = ap length p.is ∙ length-sets s at x; put = λ room few. p }
 
 -- ## One after another
 

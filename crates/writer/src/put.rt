@@ -1,6 +1,8 @@
 // Bytes put into a lent buffer, one piece after the other. A piece that has no room is left out, so that no function asks for any; the one who
 // calls them all has seen to it that there is room.
+ghost use Rattle.std.specs.Prelude.{◌+◌, ◌≤◌, length};
 ghost use Rattle.der.specs.Head.{head_bytes};
+ghost use Rattle.writer.specs.Puts.{Put};
 ghost use Rattle.writer.specs.Wrote.{Wrote};
 
 // A lent buffer, and the offset that the next piece goes to.
@@ -10,15 +12,27 @@ pub(crate) struct Cursor<'a> {
     pub(crate) at: usize,
 }
 
+// By the byte: `copy_from_slice` asks the host for memmove, and the C header promises that memcpy and memset are enough.
+fn copy(buf: &mut [u8], at: usize, part: &[u8]) -> usize
+    requires { at + length part.now ≤ length buf.old }
+    ensures { Put at result part.now buf.old buf.new }
+{
+    let len = part.len();
+    let mut i: usize = 0;
+    while i < len {
+        buf[at + i] = part[i];
+        i += 1;
+    }
+    at + len
+}
+
 impl Cursor<'_> {
     pub(crate) fn put_bytes(&mut self, part: &[u8])
         ensures { Wrote part.now self.old self.new }
     {
         let at = self.at;
         if at <= self.buf.len() && part.len() <= self.buf.len() - at {
-            let end = at + part.len();
-            self.buf[at..end].copy_from_slice(part);
-            self.at = end;
+            self.at = copy(self.buf, at, part);
         }
     }
 
