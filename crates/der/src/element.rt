@@ -55,7 +55,7 @@ fn kind_with(tag: u8, c: &[u8]) -> Kind
     ensures { result ≡ kind_of tag c.now }
 {
     match tag {
-        0x30 => Kind::Constructed,
+        0x30 | 0x31 => Kind::Constructed,
         0x00..=0x0F => {
             if content_ok(tag, c) {
                 Kind::Primitive
@@ -63,7 +63,8 @@ fn kind_with(tag: u8, c: &[u8]) -> Kind
                 Kind::Faulty
             }
         }
-        _ if !tag_ok(tag) || !form_ok(tag) => Kind::Faulty,
+        // 00 is told above, and 20 is a bad form
+        _ if tag % 32 == 31 || !form_ok(tag) => Kind::Faulty,
         _ if tag / 32 % 2 == 1 => Kind::Constructed,
         _ => Kind::Primitive,
     }
