@@ -19,6 +19,11 @@ unfoldable pub rule_of : Bool → Head → ℕ
 rule_of level (Err rule) = rule
 rule_of level (Ok whole) = cond (level && form_ok whole.tag) 4 3
 
+-- A head as one number: the content's length times 8, and the bytes that tag and length take; 0 where it is bad.
+abbrev pub packed_of : Head → ℕ
+packed_of (Err rule) = 0
+packed_of (Ok whole) = whole.len * 8 + whole.start
+
 -- a fault at this place
 abbrev pub fault_of : ℕ → ℕ → Check
 fault_of at rule = fault_by (record { 0 = at }) rule

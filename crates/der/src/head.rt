@@ -1,6 +1,7 @@
 // Tag and length of an element: points 1 and 2 of document 01, "DER as we take it".
 ghost use Rattle.std.specs.Prelude.{◌≡◌, ◌+◌, ◌^◌, ◌<◌};
 ghost use Rattle.der.specs.Head.{tag_ok, inside, length_of, head_of};
+ghost use Rattle.der.specs.Code.{packed_of};
 
 // The head of an element whose content is `len` bytes from `start`.
 #[derive(Clone, Copy)]
@@ -64,5 +65,16 @@ pub fn read(s: &[u8]) -> Head
         [] => Err(2),
         [tag, ..] if tag_ok(*tag) => read_length(s),
         _ => Err(1),
+    }
+}
+
+// Tag and length as one number: the content's length times 8, and the bytes that tag and length take; 0 where they are bad. No code here
+// asks for it: it is public, and documents name it.
+pub fn packed(s: &[u8]) -> usize
+    ensures { result ≡ packed_of (head_of s.now) }
+{
+    match read(s) {
+        Err(_) => 0,
+        Ok(whole) => whole.len * 8 + whole.start,
     }
 }
