@@ -5,6 +5,8 @@
 // failed.
 #![tactic(auto)]
 
+ghost use Rattle.std.specs.Prelude.{◌≤◌, IfOk, length};
+
 use grammar::{Message, Span};
 use message::Reading;
 use std::io;
@@ -14,7 +16,9 @@ use std::io::Read;
 const CERT_CONF: u8 = 24;
 
 // All there is to read, or as much as there is room for. Read by read, since read_to_end wants a heap.
-fn read_input<'a>(rt: &HostRuntime, buf: &'a mut [u8]) -> io::Result<&'a [u8]> {
+fn read_input<'a>(rt: &HostRuntime, buf: &'a mut [u8]) -> io::Result<&'a [u8]>
+    ensures { IfOk result (λ input. length input.now ≤ length buf.old) }
+{
     let mut stdin = rt.stdin();
     let mut done = 0;
     while done < buf.len() {
