@@ -26,7 +26,7 @@ pub fn not_sixteen(message: &[u8], span: Span) -> bool
 }
 
 // The one comparison of bytes: ids, nonces and hashes are the same where these are.
-#[tactic(auto, using(crate::proofs::Laws::same_is))]
+#[tactic(auto, using(crate::proofs::Laws::same_is, std::proofs::lemmas::List::take_all))]
 fn same_bytes(p: &[u8], q: &[u8]) -> bool
     ensures { result ≡ same_bytes p.now q.now }
 {
