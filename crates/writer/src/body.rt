@@ -122,8 +122,8 @@ impl Cursor<'_> {
     fn put_response_content(&mut self, src: &[u8], certificate: Span, number: u32, status: u32)
         ensures { Wrote (response_content number status (optional_part src.now certificate)) self.old self.new }
     {
-        self.put_integer(number);
-        self.put_status(status, None);
+        self.put_integer(number); // certReqId
+        self.put_status(status, None); // PKIStatusInfo
         self.put_key_pair(src, certificate);
     }
 
