@@ -10,12 +10,12 @@ returns-then-n-gt-MAX_MESSAGE c =
 
 pub returns-then-buf-n : goal.returns-then-buf-n
 returns-then-buf-n c =
-    short _ _ _ _ (message-size _ _ c.message_content_size.ensures c.around.ensures (omega arith)) c.if-n-gt-MAX_MESSAGE.false (omega arith)
+    short _ _ _ _ (message-size _ _ c.message_content_size.ensures c.around.ensures (omega arith)) (omega arith) c.if-buf-n.true
 
 pub returns : goal.returns
 returns c =
-    written _ _ _ _ (message-size _ _ c.message_content_size.ensures c.around.ensures (omega arith)) c.if-n-gt-MAX_MESSAGE.false (omega arith) (told c.all_fit.ensures c.if-not-all_fit.false) c.write_message.ensures
+    written _ _ _ _ (message-size _ _ c.message_content_size.ensures c.around.ensures (omega arith)) (omega arith) (omega arith) (told c.all_fit.ensures c.if-not-all_fit.false) c.write_message.ensures
 
 pub returns-then-not-all_fit : goal.returns-then-not-all_fit
 returns-then-not-all_fit c =
-    unfit _ _ _ _ (message-size _ _ c.message_content_size.ensures c.around.ensures (omega arith)) c.if-n-gt-MAX_MESSAGE.false (omega arith) (told c.all_fit.ensures c.if-not-all_fit.true)
+    unfit _ _ _ _ (message-size _ _ c.message_content_size.ensures c.around.ensures (omega arith)) (omega arith) c.if-buf-n.false (told c.all_fit.ensures c.if-not-all_fit.true)
