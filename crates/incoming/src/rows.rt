@@ -2,7 +2,7 @@
 ghost use Rattle.std.specs.Prelude.{◌≡◌, not, map, ◌&&◌, ◌||◌, eqb};
 ghost use Rattle.protocol.specs.Message.{is_present, fields_of, optional_status, status_or0};
 ghost use Rattle.protocol.specs.Refusals.{bit_of, no_fault, read_refusal, lowest_row, head_rows};
-ghost use Rattle.incoming.specs.Incoming.{fault_of, number_of, row_of};
+ghost use Rattle.incoming.specs.Incoming.{fault_of, number_of, row_of, or_row, ChainFinds, NumbersPositive};
 
 use der::Offset;
 use grammar::{Entry, Message};
@@ -50,6 +50,20 @@ fn unprotected(m: Message) -> bool
     ensures { result ≡ not (is_present m.protection && is_present m.header.protection_alg) }
 {
     !(is_present(m.protection) && is_present(m.header.protection_alg))
+}
+
+// The next row of a table: the number so far, or this one where it applies; 0 is no row's number. The code of both ends asks
+// `first_row`; this is for a caller that has one row at a time. It is public and documents name it, so it stays.
+#[tactic(auto, using(crate::proofs::RowLaws::chain_finds, crate::proofs::RowLaws::numbers_positive))]
+pub fn or_row(so_far: u8, number: u8, applies: bool) -> u8
+    ensures row { result ≡ or_row so_far number applies }
+    ensures chain { ChainFinds }
+    ensures positive { NumbersPositive }
+{
+    if so_far != 0 {
+        return so_far;
+    }
+    if applies { number } else { 0 }
 }
 
 // The number of the first row of a table that applies: each row is its number and whether it applies.
