@@ -1,6 +1,7 @@
 // Which states take what: a function for each table of the definitions.
 //
-// A must-fail edit names the text of one line, which has to stand in its file just once: so `may_refuse` asks `may_issue`.
+// A must-fail edit names the text of one line, which has to stand in its file just once: so the state that is to be refused
+// has a name.
 ghost use Rattle.std.specs.Prelude.{◌≡◌};
 ghost use Rattle.protocol.specs.Table.{is_free};
 ghost use Rattle.protocol.specs.States.{is_asked, is_granted, has_sent, settled_by, settled_state, is_confirmed, has_hash, may_issue, may_refuse, may_lapse, may_close};
@@ -71,11 +72,12 @@ pub(crate) fn may_issue(held: Transaction) -> bool
     is_asked(held.state)
 }
 
-// refuse: what may be issued
+// refuse
 pub(crate) fn may_refuse(held: Transaction) -> bool
     ensures { result ≡ may_refuse held }
 {
-    may_issue(held)
+    let refused = held.state;
+    is_asked(refused)
 }
 
 // lapse
