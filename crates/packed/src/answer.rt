@@ -2,13 +2,14 @@
 ghost use Rattle.std.specs.Prelude.{◌≡◌, ◌≤◌, length};
 ghost use Rattle.packed.specs.Bytes.{Placed, fits_at, pack_at};
 ghost use Rattle.packed.specs.Places.{answer_fault_at, answer_own_at, fault_part_bytes};
-ghost use Rattle.packed.specs.Answer.{outcome_number, pack_outcome, pack_fault, slot_byte, registrar_answer_bytes, pack_registrar_answer, end_entity_answer_bytes, pack_end_entity_answer};
+ghost use Rattle.packed.specs.Outgoing.{outgoing_bytes, pack_outgoing};
+ghost use Rattle.packed.specs.Answer.{outcome_number, pack_outcome, pack_fault, slot_byte, sent_or_silent, registrar_answer_bytes, pack_registrar_answer, end_entity_answer_bytes, pack_end_entity_answer};
 
 use crate::bytes::{put, put_flag};
 use crate::places;
 use crate::sent::{failure_number, put_outgoing};
 use message::ReadFault;
-use protocol::{EndEntityAnswer, Outcome, RegistrarAnswer, Slot};
+use protocol::{EndEntityAnswer, Outcome, Outgoing, RegistrarAnswer, Slot};
 
 pub const REGISTRAR_ANSWER_BYTES: usize = places::REGISTRAR_END;
 
@@ -53,6 +54,17 @@ fn slot_byte(s: Slot) -> u8
     u8::try_from(s.0).unwrap_or(255)
 }
 
+// The message, or what stands where there is none, as the first bytes.
+fn put_sent(bytes: &mut [u8], o: &Option<Outgoing>)
+    requires { outgoing_bytes ≤ length bytes.old }
+    ensures { Placed 0 outgoing_bytes (pack_outgoing (sent_or_silent o.now)) bytes.old bytes.new }
+{
+    match o {
+        Some(sent) => put_outgoing(bytes, sent),
+        None => put_outgoing(bytes, &outgoing::silent()),
+    }
+}
+
 // The answer as the first bytes. False, with nothing changed, where there is no room for it.
 pub fn pack_registrar_answer(bytes: &mut [u8], a: RegistrarAnswer) -> bool
     ensures { (result ≡ fits_at 0 registrar_answer_bytes bytes.old) × (bytes.new ≡ pack_at 0 registrar_answer_bytes (pack_registrar_answer a) bytes.old) }
@@ -64,8 +76,7 @@ pub fn pack_registrar_answer(bytes: &mut [u8], a: RegistrarAnswer) -> bool
     put_fault(bytes, a.fault);
     bytes[places::REGISTRAR_SLOT] = slot_byte(a.slot);
     put_flag(bytes, places::REGISTRAR_SENDS, a.outgoing.is_some());
-    let sent = a.outgoing.unwrap_or(outgoing::silent());
-    put_outgoing(&mut bytes[places::REGISTRAR_OUTGOING..], sent);
+    put_sent(&mut bytes[places::REGISTRAR_OUTGOING..], &a.outgoing);
     true
 }
 
@@ -79,7 +90,6 @@ pub fn pack_end_entity_answer(bytes: &mut [u8], a: EndEntityAnswer) -> bool
     put(bytes, places::ANSWER_CODE, &outcome_bytes(a.outcome));
     put_fault(bytes, a.fault);
     put_flag(bytes, places::END_ENTITY_SENDS, a.outgoing.is_some());
-    let sent = a.outgoing.unwrap_or(outgoing::silent());
-    put_outgoing(&mut bytes[places::END_ENTITY_OUTGOING..], sent);
+    put_sent(&mut bytes[places::END_ENTITY_OUTGOING..], &a.outgoing);
     true
 }

@@ -4,6 +4,7 @@ ghost use Rattle.std.specs.Prelude.{◌≡◌, [], ◌∷◌, ◌+◌, ◌≤◌
 ghost use Rattle.packed.specs.Bytes.{part, Placed, flag, flag_at};
 
 // N bytes from an offset.
+#[inline(always)]
 pub(crate) fn get<const N: usize>(bytes: &[u8], at: usize) -> [u8; N]
     requires { at + N ≤ length bytes.now }
     ensures { result ≡ part at N bytes.now }
@@ -22,6 +23,7 @@ pub(crate) fn get_flag(bytes: &[u8], at: usize) -> bool
 }
 
 // It says too how long what it put in is: a caller has an array's length from here.
+#[inline(always)]
 pub(crate) fn put<const N: usize>(bytes: &mut [u8], at: usize, x: &[u8; N])
     requires { at + N ≤ length bytes.old }
     ensures { Placed at N x.now bytes.old bytes.new }

@@ -67,9 +67,9 @@ pub fn unpack_enrolment(bytes: &[u8]) -> Option<Enrolment>
     })
 }
 
-fn put_enrolment(bytes: &mut [u8], x: Enrolment)
+fn put_enrolment(bytes: &mut [u8], x: &Enrolment)
     requires { enrolment_bytes ≤ length bytes.old }
-    ensures { Placed 0 enrolment_bytes (pack_enrolment x) bytes.old bytes.new }
+    ensures { Placed 0 enrolment_bytes (pack_enrolment x.now) bytes.old bytes.new }
 {
     put(bytes, places::ENROLMENT_ID, &x.id.bytes);
     bytes[places::ENROLMENT_KIND] = x.kind;
@@ -85,7 +85,7 @@ pub fn pack_enrolment(bytes: &mut [u8], enrolment: Enrolment) -> bool
     ensures { (result ≡ eqb (length bytes.old) enrolment_bytes) × (bytes.new ≡ pack_enrolment_in enrolment bytes.old) }
 {
     if bytes.len() == ENROLMENT_BYTES {
-        put_enrolment(bytes, enrolment);
+        put_enrolment(bytes, &enrolment);
         true
     } else {
         false

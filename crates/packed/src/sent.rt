@@ -18,9 +18,9 @@ pub(crate) fn failure_number(f: FailureInfo) -> u8
 }
 
 // Kind, id and nonces.
-fn put_names(bytes: &mut [u8], o: Outgoing)
-    requires { outgoing_bytes ≤ length bytes.old }
-    ensures { Placed 0 outgoing_contents_at (pack_names o) bytes.old bytes.new }
+fn put_names(bytes: &mut [u8], o: &Outgoing)
+    requires { outgoing_contents_at ≤ length bytes.old }
+    ensures { Placed 0 outgoing_contents_at (pack_names o.now) bytes.old bytes.new }
 {
     bytes[places::OUTGOING_KIND] = o.kind;
     put(bytes, places::OUTGOING_ID, &o.id.bytes);
@@ -29,26 +29,37 @@ fn put_names(bytes: &mut [u8], o: Outgoing)
     put(bytes, places::OUTGOING_RECIP_NONCE, &o.recip_nonce.bytes);
 }
 
-// What only some kinds carry.
-fn put_contents(bytes: &mut [u8], c: OutgoingContents)
-    requires { outgoing_bytes ≤ length bytes.old }
-    ensures { Placed outgoing_contents_at contents_part_bytes (pack_contents c) bytes.old bytes.new }
+// What only some kinds carry, as the first bytes.
+fn put_contents(bytes: &mut [u8], c: &OutgoingContents)
+    requires { contents_part_bytes ≤ length bytes.old }
+    ensures { Placed 0 contents_part_bytes (pack_contents c.now) bytes.old bytes.new }
 {
-    put_flag(bytes, places::OUTGOING_HAS_STATUS, c.has_status);
-    put(bytes, places::OUTGOING_STATUS, &c.status.to_be_bytes());
-    put(bytes, places::OUTGOING_HASH, &c.hash.bytes);
-    bytes[places::OUTGOING_FAILURE] = failure_number(c.failure);
-    put_flag(bytes, places::OUTGOING_HAS_NUMBER, c.has_number);
-    put(bytes, places::OUTGOING_NUMBER, &c.number.to_be_bytes());
+    let start = places::OUTGOING_HAS_STATUS;
+    let status = c.status;
+    let number = c.number;
+    put_flag(bytes, 0, c.has_status);
+    put(
+        bytes,
+        places::OUTGOING_STATUS - start,
+        &status.to_be_bytes(),
+    );
+    put(bytes, places::OUTGOING_HASH - start, &c.hash.bytes);
+    bytes[places::OUTGOING_FAILURE - start] = failure_number(c.failure);
+    put_flag(bytes, places::OUTGOING_HAS_NUMBER - start, c.has_number);
+    put(
+        bytes,
+        places::OUTGOING_NUMBER - start,
+        &number.to_be_bytes(),
+    );
 }
 
 // The message as the first bytes.
-pub(crate) fn put_outgoing(bytes: &mut [u8], o: Outgoing)
+pub(crate) fn put_outgoing(bytes: &mut [u8], o: &Outgoing)
     requires { outgoing_bytes ≤ length bytes.old }
-    ensures { Placed 0 outgoing_bytes (pack_outgoing o) bytes.old bytes.new }
+    ensures { Placed 0 outgoing_bytes (pack_outgoing o.now) bytes.old bytes.new }
 {
     put_names(bytes, o);
-    put_contents(bytes, o.contents);
+    put_contents(&mut bytes[places::OUTGOING_HAS_STATUS..], &o.contents);
 }
 
 fn failure_of(n: u8) -> FailureInfo

@@ -72,9 +72,9 @@ fn get_transaction(bytes: &[u8]) -> Option<Transaction>
 }
 
 // Id, board and kind.
-fn put_request(bytes: &mut [u8], t: Transaction)
+fn put_request(bytes: &mut [u8], t: &Transaction)
     requires { transaction_bytes ≤ length bytes.old }
-    ensures { Placed 0 transaction_taken_at (pack_request t) bytes.old bytes.new }
+    ensures { Placed 0 transaction_taken_at (pack_request t.now) bytes.old bytes.new }
 {
     put(bytes, places::TRANSACTION_ID, &t.id.bytes);
     put(bytes, places::TRANSACTION_BOARD, &t.board.0.to_be_bytes());
@@ -82,9 +82,9 @@ fn put_request(bytes: &mut [u8], t: Transaction)
 }
 
 // Nonces, hash and state.
-fn put_progress(bytes: &mut [u8], t: Transaction)
+fn put_progress(bytes: &mut [u8], t: &Transaction)
     requires { transaction_bytes ≤ length bytes.old }
-    ensures { Placed transaction_taken_at progress_part_bytes (pack_progress t) bytes.old bytes.new }
+    ensures { Placed transaction_taken_at progress_part_bytes (pack_progress t.now) bytes.old bytes.new }
 {
     put(bytes, places::TRANSACTION_TAKEN, &t.taken.bytes);
     put(bytes, places::TRANSACTION_SENT, &t.sent.bytes);
@@ -93,9 +93,9 @@ fn put_progress(bytes: &mut [u8], t: Transaction)
 }
 
 // The transaction as the first bytes.
-fn put_transaction(bytes: &mut [u8], t: Transaction)
+fn put_transaction(bytes: &mut [u8], t: &Transaction)
     requires { transaction_bytes ≤ length bytes.old }
-    ensures { Placed 0 transaction_bytes (pack_transaction t) bytes.old bytes.new }
+    ensures { Placed 0 transaction_bytes (pack_transaction t.now) bytes.old bytes.new }
 {
     put_request(bytes, t);
     put_progress(bytes, t);
@@ -129,7 +129,7 @@ fn put_rows(bytes: &mut [u8], rows: &[Transaction; TransactionTable::CAPACITY])
     ensures { Placed 0 table_bytes (pack_rows rows.now) bytes.old bytes.new }
 {
     for (i, row) in rows.iter().enumerate() {
-        put_transaction(&mut bytes[i * TRANSACTION_BYTES..], *row);
+        put_transaction(&mut bytes[i * TRANSACTION_BYTES..], row);
     }
 }
 

@@ -16,4 +16,4 @@ returns c =
     room (omega arith) (
     next (rw c.outcome_bytes.ensures at c.put.ensures) refl (
     next c.put_fault.ensures refl (
-    next (rw c.is_some.ensures at c.put_flag.ensures) refl (inside (omega arith) (rw (c.unwrap_or-sent.ensures, c.silent.ensures) at c.put_outgoing.ensures)))))
+    next (rw c.is_some.ensures at c.put_flag.ensures) refl (inside (omega arith) c.put_sent.ensures))))

@@ -18,4 +18,4 @@ returns c =
     next (rw c.outcome_bytes.ensures at c.put.ensures) refl (
     next c.put_fault.ensures refl (
     next (one_of c.slot_byte.ensures) refl (
-    next (rw c.is_some.ensures at c.put_flag.ensures) refl (inside (omega (arith, length-set c.put_fault.new.bytes 13 c.slot_byte.result)) (rw (c.unwrap_or-sent.ensures, c.silent.ensures) at c.put_outgoing.ensures))))))
+    next (rw c.is_some.ensures at c.put_flag.ensures) refl (inside (omega (arith, length-set c.put_fault.new.bytes 13 c.slot_byte.result)) c.put_sent.ensures)))))

@@ -9,8 +9,8 @@ use Rattle.packed.proofs.sent.put_contents.Goals as goal
 pub returns : goal.returns
 unfolding pack_contents
 returns c =
-    let status = four_put {n = c.args.c.status} (search rules) c.to_be_bytes.ensures c.put.ensures in
-    let number = four_put {n = c.args.c.number} (search rules) c.to_be_bytes-2.ensures c.put-3.ensures in
+    let status = four_put {n = c.args.c.now.status} (search rules) c.to_be_bytes.ensures c.put.ensures in
+    let number = four_put {n = c.args.c.now.number} (search rules) c.to_be_bytes-2.ensures c.put-3.ensures in
     next c.put_flag.ensures refl (
     next status refl (
     next c.put-2.ensures refl (

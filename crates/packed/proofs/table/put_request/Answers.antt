@@ -9,5 +9,5 @@ use Rattle.packed.proofs.table.put_request.Goals as goal
 pub returns : goal.returns
 unfolding pack_request
 returns c =
-    let board = two_put {n = c.args.t.board.0} (search rules) c.to_be_bytes.ensures c.put-2.ensures in
+    let board = two_put {n = c.args.t.now.board.0} (search rules) c.to_be_bytes.ensures c.put-2.ensures in
     next c.put.ensures refl (next board refl one)
