@@ -80,6 +80,7 @@ fn put_enrolment(bytes: &mut [u8], x: &Enrolment)
 }
 
 // The enrolment as bytes. False, with nothing changed, where `bytes` is not exactly as long as one.
+#[inline(always)]
 #[tactic(auto, unfolding(crate::specs::Enrolment::pack_enrolment_in))]
 pub fn pack_enrolment(bytes: &mut [u8], enrolment: Enrolment) -> bool
     ensures { (result ≡ eqb (length bytes.old) enrolment_bytes) × (bytes.new ≡ pack_enrolment_in enrolment bytes.old) }

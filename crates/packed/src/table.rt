@@ -134,6 +134,7 @@ fn put_rows(bytes: &mut [u8], rows: &[Transaction; TransactionTable::CAPACITY])
 }
 
 // The table as bytes. False, with nothing changed, where `bytes` is not exactly as long as one.
+#[inline(always)]
 #[tactic(auto, unfolding(crate::specs::Table::pack_table_in))]
 pub fn pack_table(bytes: &mut [u8], table: TransactionTable) -> bool
     ensures { (result ≡ eqb (length bytes.old) table_bytes) × (bytes.new ≡ pack_table_in table bytes.old) }
