@@ -165,6 +165,14 @@ pub struct Function {
     pub body: String,
 }
 
+/// The loops that begin in a line of code, whatever stands before them in it; none in a comment.
+fn loops(line: &str) -> usize {
+    let code = line.split("//").next().unwrap_or_default();
+    words(code)
+        .filter(|word| ["while", "for", "loop"].contains(word))
+        .count()
+}
+
 /// The functions of one source file. A contract ends where a line is a lone `{` or the first line ends with one.
 pub fn functions(path: &Path) -> Vec<Function> {
     let content = text(path);
@@ -196,10 +204,7 @@ pub fn functions(path: &Path) -> Vec<Function> {
                 .iter()
                 .any(|l| l.trim().starts_with("requires")),
             lines: end - body - 1,
-            loops: lines[body..end]
-                .iter()
-                .filter(|l| l.trim().starts_with("while "))
-                .count(),
+            loops: lines[body..end].iter().map(|l| loops(l)).sum(),
             body: lines[body..end].join("\n"),
         });
     }
